@@ -1,0 +1,22 @@
+use thiserror::Error;
+
+/// A call to the outside failed. The object's count of faults rose in that call.
+#[derive(Clone, Copy, Debug, PartialEq, Eq, Error)]
+#[error("the device failed")]
+pub struct Failed;
+
+/// Want of memory.
+#[derive(Clone, Copy, Debug, PartialEq, Eq, Error)]
+#[error("out of memory")]
+pub struct Memory;
+
+/// A stream of spilled records ended early.
+#[derive(Clone, Copy, Debug, PartialEq, Eq, Error)]
+pub enum StreamFault {
+    /// The disk failed: its count rose in this call.
+    #[error("the spill device failed")]
+    Spill,
+    /// The page in this block isn't one that was written. Only over a disk that doesn't tell.
+    #[error("block {block} is damaged")]
+    Damaged { block: u64 },
+}
