@@ -1,0 +1,45 @@
+use Rattle.std.specs.Prelude.{ℕ, Bool, false, List, [], ℤ, pos}
+use Rattle.std.specs.Cmp.Lexicographic.{slice_cmp}
+use Rattle.std.specs.Ordering.{nat_cmp, int_cmp, bool_cmp, is_eq}
+use Rattle.std.specs.declared.cmp.Ordering.{Ordering}
+use Rattle.std.specs.declared.cmp.Ordering.TheVariants.{Less, Greater}
+use Rattle.flow_types.specs.declared.value.Value.{Value}
+use Rattle.flow_types.specs.declared.value.Value.TheVariants as value
+
+-- A value is a Long, a Bool or a Str, which is its bytes.
+
+-- The order of values: Longs by number (Java's long), false before true, Strs by their bytes with a
+-- proper prefix first (our own). Two kinds are never compared by a plan; so that the order is total,
+-- a Long stands before a Bool and a Bool before a Str.
+abbrev pub value_cmp : Value → Value → Ordering
+value_cmp (value.Long a) (value.Long b) = int_cmp a b
+value_cmp (value.Long a) (value.Bool b) = Less
+value_cmp (value.Long a) (value.Str b) = Less
+value_cmp (value.Bool a) (value.Long b) = Greater
+value_cmp (value.Bool a) (value.Bool b) = bool_cmp a b
+value_cmp (value.Bool a) (value.Str b) = Less
+value_cmp (value.Str a) (value.Long b) = Greater
+value_cmp (value.Str a) (value.Bool b) = Greater
+value_cmp (value.Str a) (value.Str b) = slice_cmp nat_cmp a b
+
+-- two values are the same
+abbrev pub value_eq : Value → Value → Bool
+value_eq a b = is_eq (value_cmp a b)
+
+-- the number of a Long; 0 of another kind
+abbrev pub long_of : Value → ℤ
+long_of (value.Long n) = n
+long_of (value.Bool b) = pos 0
+long_of (value.Str s) = pos 0
+
+-- the truth of a Bool; false of another kind
+abbrev pub flag_of : Value → Bool
+flag_of (value.Long n) = false
+flag_of (value.Bool b) = b
+flag_of (value.Str s) = false
+
+-- the bytes of a Str; none of another kind
+abbrev pub bytes_of : Value → List ℕ
+bytes_of (value.Long n) = []
+bytes_of (value.Bool b) = []
+bytes_of (value.Str s) = s

@@ -1,0 +1,12 @@
+/// A fold over the rows of a group.
+#[derive(Clone, Copy, Debug, PartialEq, Eq)]
+pub enum Agg {
+    /// The sum of a field's Longs, modulo 2^64.
+    Sum(u16),
+    /// The least of a field's Longs, or the stated number where there is no row.
+    Min(u16, i64),
+    /// The greatest of a field's Longs, or the stated number where there is no row.
+    Max(u16, i64),
+    /// The number of rows.
+    Count,
+}

@@ -1,0 +1,52 @@
+ghost use Rattle.std.specs.Prelude.{◌≡◌, ◌≤◌};
+ghost use Rattle.flow_types.specs.Types.{width, is_bounded, fits_field};
+
+use crate::text::TEXT_LIMIT;
+use crate::value::Value;
+
+/// The type of a field.
+#[derive(Clone, Copy, Debug, PartialEq, Eq)]
+pub enum FieldType {
+    Long,
+    Bool,
+    /// A text of at most so many bytes.
+    Str(u16),
+}
+
+impl FieldType {
+    /// The bytes that the widest value of the field takes in a record.
+    pub fn width(self) -> u32
+        ensures value { result ≡ width self }
+        ensures small { result ≤ 65_537 }
+    {
+        match self {
+            FieldType::Long => 8,
+            FieldType::Bool => 1,
+            FieldType::Str(bound) => u32::from(bound) + 2,
+        }
+    }
+
+    /// Whether the bound is one that a text can have.
+    pub fn is_bounded(self) -> bool
+        ensures { result ≡ is_bounded self }
+    {
+        match self {
+            FieldType::Long | FieldType::Bool => true,
+            FieldType::Str(bound) => usize::from(bound) <= TEXT_LIMIT,
+        }
+    }
+
+    /// Whether a value has this field's kind and a text doesn't exceed its bound.
+    pub fn fits(self, value: &Value) -> bool
+        ensures { result ≡ fits_field self value.now }
+    {
+        match self {
+            FieldType::Long => matches!(value, Value::Long(_)),
+            FieldType::Bool => matches!(value, Value::Bool(_)),
+            FieldType::Str(bound) => match value {
+                Value::Str(text) => text.as_str().len() <= usize::from(bound),
+                _ => false,
+            },
+        }
+    }
+}

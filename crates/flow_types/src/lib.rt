@@ -1,0 +1,16 @@
+//! Values, tuples and their order, bags, schemas and expressions: what every other crate speaks
+//! of. It stands on nothing of the project but the type for want of memory.
+//!
+//! Its one promise: constructors answer `None` exactly where a limit is passed, and `compare` is
+//! the order of values.
+#![tactic(auto)]
+
+pub mod agg;
+pub mod expr;
+pub mod field_type;
+pub mod name;
+pub mod order_item;
+pub mod row;
+pub mod schema;
+pub mod text;
+pub mod value;

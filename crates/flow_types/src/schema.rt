@@ -1,0 +1,120 @@
+ghost use Rattle.std.specs.Prelude.{◌≡◌, ◌≤◌, ◌*◌, IsTrue, IfOk, length, sum_by};
+ghost use Rattle.std.specs.Option.{SomeIff};
+ghost use Rattle.std.specs.List.{list_all};
+ghost use Rattle.flow_types.specs.Types.{width, widest, is_schema, is_bounded, fits};
+
+use crate::field_type::FieldType;
+use crate::row::Row;
+use crate::value::Value;
+use flow_outside::failure::Memory;
+use std::alloc::Global;
+use std::marker::Model;
+
+/// The most fields of a schema.
+pub const FIELD_LIMIT: usize = 32;
+
+/// The most bytes of the widest record.
+pub const RECORD_LIMIT: u32 = 16_384;
+
+/// The types of a tuple's fields, seen as their list: 1 to 32 fields, no text's bound above 16,382,
+/// and no record above 16,384 bytes.
+#[derive(Debug, Drop)]
+pub struct Schema {
+    fields: Vec<FieldType>,
+}
+
+impl Model for Schema {
+    ghost use Rattle.std.specs.Prelude.{IsTrue};
+    ghost use Rattle.flow_types.specs.Types.{Fields, is_schema};
+
+    ghost Value = { Fields };
+
+    ghost view = { λ s. s.fields.items };
+
+    ghost invariant = { λ s. IsTrue (is_schema s.fields.items) };
+}
+
+impl Schema {
+    /// The schema of these fields, or `None` exactly where they pass a limit.
+    pub fn of(fields: Vec<FieldType>) -> Option<Schema>
+        ensures { SomeIff result (IsTrue (is_schema fields.items)) fields.items }
+    {
+        if !is_schema(fields.as_slice()) {
+            return None;
+        }
+        Some(Schema { fields })
+    }
+
+    pub fn fields(&self) -> &[FieldType]
+        ensures value { result.now ≡ self.now }
+        ensures limits { IsTrue (is_schema self.now) }
+    {
+        self.fields.as_slice()
+    }
+
+    /// The bytes of the widest record.
+    pub fn max_bytes(&self) -> u32
+        ensures { result ≡ widest self.now }
+    {
+        widest(self.fields.as_slice())
+    }
+
+    /// Whether a row fits: as many values as fields, each of its field's kind and within its bound.
+    pub fn fits(&self, row: &Row) -> bool
+        ensures { result ≡ fits self.now row.now }
+    {
+        fits(self.fields.as_slice(), row.values())
+    }
+
+    pub fn copy(&self, alloc: Global) -> Result<Schema, Memory>
+        ensures { IfOk result (λ s. s ≡ self.now) }
+    {
+        match Vec::from_slice(alloc, self.fields.as_slice()) {
+            Ok(fields) => Ok(Schema { fields }),
+            Err(_) => Err(Memory),
+        }
+    }
+}
+
+/// Whether fields are a schema's.
+fn is_schema(fields: &[FieldType]) -> bool
+    ensures { result ≡ is_schema fields.now }
+{
+    1 <= fields.len()
+        && fields.len() <= FIELD_LIMIT
+        && all_bounded(fields)
+        && widest(fields) <= RECORD_LIMIT
+}
+
+fn all_bounded(fields: &[FieldType]) -> bool
+    ensures { result ≡ list_all is_bounded fields.now }
+{
+    fields.iter().all(|field| field.is_bounded())
+}
+
+/// The bytes of the widest record of few fields.
+fn widest(fields: &[FieldType]) -> u32
+    requires { length fields.now ≤ 32 }
+    ensures { result ≡ widest fields.now }
+{
+    let mut total = 0;
+    for field in fields {
+        total += field.width();
+    }
+    total
+}
+
+/// Whether values fit fields.
+fn fits(fields: &[FieldType], values: &[Value]) -> bool
+    ensures { result ≡ fits fields.now values.now }
+{
+    if fields.len() != values.len() {
+        return false;
+    }
+    for i in 0..fields.len() {
+        if !fields[i].fits(&values[i]) {
+            return false;
+        }
+    }
+    true
+}
