@@ -1,1 +1,5 @@
+pub mod Blocks
 pub mod Causes
+pub mod Readers
+pub mod Told
+pub mod Words

@@ -6,3 +6,9 @@
 #![tactic(auto)]
 
 pub mod failure;
+pub mod gate;
+pub mod shelf;
+pub mod sink;
+pub mod spill;
+pub mod words;
+pub mod write_all;
