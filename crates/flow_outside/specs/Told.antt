@@ -21,3 +21,9 @@ pub record AppendsProperPrefix (old new : Option (List ℕ)) (text : List ℕ) :
   pub count : ℕ
   pub proper : count < length text
   pub appended : Appends old new (take count text)
+
+-- The first `count` bytes of `text` were added at the end, which may be all of them.
+pub record AppendsPrefix (old new : Option (List ℕ)) (text : List ℕ) : Type 0 where
+  pub count : ℕ
+  pub within : count ≤ length text
+  pub appended : Appends old new (take count text)
