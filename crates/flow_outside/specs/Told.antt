@@ -1,4 +1,4 @@
-use Rattle.std.specs.Prelude.{◌≡◌, ℕ, ◌<◌, List, ◌++◌, length, take, Option, Some, None}
+use Rattle.std.specs.Prelude.{◌≡◌, ℕ, ◌<◌, ◌≤◌, List, ◌++◌, length, take, Option, Some, None}
 
 -- A claim about contents, which binds only where they are told. The objects in memory tell theirs, and a real
 -- file, a terminal and a spill file don't. The rule is this project's own.
