@@ -1,0 +1,3 @@
+pub mod Env
+pub mod Algebra
+pub mod Built
