@@ -3,7 +3,7 @@ use Rattle.std.specs.Ordering.{is_eq, is_ne, is_lt, is_le, is_gt, is_ge}
 use Rattle.std.specs.declared.cmp.Ordering.{Ordering}
 use Rattle.flow_types.specs.declared.expr.BinOp.{BinOp}
 use Rattle.flow_types.specs.declared.expr.BinOp.TheVariants as bin
-use Rattle.flow_types.specs.declared.expr.Expr.{Expr, out-Expr}
+use Rattle.flow_types.specs.declared.expr.Expr.{Expr, fold-Expr}
 use Rattle.flow_types.specs.declared.expr.Expr.TheOpen as open_expr
 use Rattle.flow_model.specs.declared.op.Op.{Op}
 use Rattle.flow_model.specs.declared.op.Op.TheVariants as op
@@ -11,19 +11,6 @@ use Rattle.flow_model.specs.declared.plan.Node.{Node}
 use Rattle.flow_model.specs.declared.plan.Plan.{Plan}
 
 -- What is built so far.
-
--- a literal or a field, by an expression's outermost layer
-abbrev pub operand_layer : open_expr.Expr-F Expr → Bool
-operand_layer (open_expr.Expr-F.Lit v) = true
-operand_layer (open_expr.Expr-F.Field k) = true
-operand_layer (open_expr.Expr-F.Un op a) = false
-operand_layer (open_expr.Expr-F.Bin op a b) = false
-operand_layer (open_expr.Expr-F.If c a b) = false
-operand_layer (open_expr.Expr-F.Cut a n) = false
-
--- a literal or a field
-abbrev pub is_operand : Expr → Bool
-is_operand e = operand_layer (out-Expr e)
 
 -- one of `eq`, `ne`, `lt`, `le`, `gt` and `ge`
 abbrev pub is_comparison : BinOp → Bool
@@ -45,18 +32,30 @@ holds bin.Gt o = is_gt o
 holds bin.Ge o = is_ge o
 holds _ o = false
 
--- a comparison of two operands, by the outermost layer
-abbrev pub test_layer : open_expr.Expr-F Expr → Bool
-test_layer (open_expr.Expr-F.Lit v) = false
-test_layer (open_expr.Expr-F.Field k) = false
-test_layer (open_expr.Expr-F.Un op a) = false
-test_layer (open_expr.Expr-F.Bin op a b) = is_comparison op && is_operand a && is_operand b
-test_layer (open_expr.Expr-F.If c a b) = false
-test_layer (open_expr.Expr-F.Cut a n) = false
+-- What an expression is so far: an operand, which is a literal or a field, or a test that is served.
+pub record Shape : Type 0 where
+  pub operand : Bool
+  pub test : Bool
+
+-- an expression's shape, from those of its parts
+abbrev pub shape_layer : open_expr.Expr-F Shape → Shape
+shape_layer (open_expr.Expr-F.Lit v) = record { operand = true; test = false }
+shape_layer (open_expr.Expr-F.Field k) = record { operand = true; test = false }
+shape_layer (open_expr.Expr-F.Un op a) = record { operand = false; test = false }
+shape_layer (open_expr.Expr-F.Bin op a b) = record { operand = false; test = is_comparison op && a.operand && b.operand }
+shape_layer (open_expr.Expr-F.If c a b) = record { operand = false; test = false }
+shape_layer (open_expr.Expr-F.Cut a n) = record { operand = false; test = false }
+
+abbrev pub shape : Expr → Shape
+shape = fold-Expr Shape shape_layer
+
+-- a literal or a field
+abbrev pub is_operand : Expr → Bool
+is_operand e = (shape e).operand
 
 -- a test that is served: a comparison of two operands
 abbrev pub is_built_test : Expr → Bool
-is_built_test e = test_layer (out-Expr e)
+is_built_test e = (shape e).test
 
 -- an op that is served
 abbrev pub is_built_op : Op → Bool

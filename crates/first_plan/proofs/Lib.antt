@@ -1,0 +1,3 @@
+pub mod DataLemmas
+pub mod DigitLemmas
+pub mod BuiltLemmas
