@@ -1,11 +1,11 @@
 -- What an event and a run leave of the lanes.
-use Rattle.std.proofs.Common.{◌≡◌, ◌≢◌, ℕ, zero, suc, ◌+◌, ◌≤◌, ◌<◌, List, [], ◌∷◌, ◌++◌, ◌∙◌, ap, ap₂, sym, subst, length, take, replicate, get_or, Option, Some, None, option_map, Result, Ok, Err, ◌⊎◌, inl, inr, refl, arith}
+use Rattle.std.proofs.Common.{◌≡◌, ◌≢◌, ℕ, zero, suc, ◌+◌, ◌≤◌, ◌<◌, List, [], ◌∷◌, ◌++◌, ◌∙◌, ap, ap₂, sym, subst, length, take, replicate, get_or, Option, Some, None, option_map, Result, Ok, Err, ◌↔◌, IsSome, IsNone, ◌⊎◌, inl, inr, refl, arith}
 use Rattle.std.specs.Prelude.{slice_get}
 use Rattle.std.proofs.lemmas.List.{get_or-set_same}
 use Rattle.std.proofs.Math.ListN.{set}
 use Rattle.exchange_core.specs.Lane.{Lane, Bytes, idle, after_put, after_got}
 use Rattle.exchange_core.specs.Machine.{Machine, lane_of, with_lane, workers, pair_of, start_of, step_of, run_from, run_of, IsSquare, IsPair}
-use Rattle.exchange_core.specs.Laws.{KeepsUp, IsFirstRefusal}
+use Rattle.exchange_core.specs.Laws.{KeepsUp, AllKeepUp, IsNotReady, IsFirstRefusal}
 use Rattle.exchange_core.specs.declared.event.Event.{Event}
 use Rattle.exchange_core.specs.declared.event.Event.TheVariants.{Put, Got}
 use Rattle.exchange_core.proofs.LaneLemmas.{idle_keeps_up, put_keeps_up, got_keeps_up}
@@ -42,9 +42,6 @@ start_idle count p c =
       | inr h ↦ ap (λ row. get_or row c idle) h
     ]
 
-abbrev pub AllKeepUp : Machine → Type 0
-AllKeepUp machine = (p c : ℕ) → KeepsUp (lane_of machine p c)
-
 with_lane_keeps : (machine : Machine) (p c : ℕ) (lane : Lane) → AllKeepUp machine → KeepsUp lane → AllKeepUp (with_lane machine p c lane)
 with_lane_keeps machine p c lane all keeps q r =
     elim (with_lane_cases machine p c lane q r) [
@@ -74,9 +71,12 @@ run_from_keeps machine place (event ∷ events) last all e =
       | Some next ↦ λ was h. run_from_keeps next (place + 1) events last (step_keeps machine next event all was) h
     ] refl e
 
+pub start_keeps : (count : ℕ) → AllKeepUp (start_of count)
+start_keeps count p c = subst KeepsUp (sym (start_idle count p c)) idle_keeps_up
+
 pub run_keeps : (count : ℕ) (events : List Event) (machine : Machine) → run_of count events ≡ Ok machine → AllKeepUp machine
 run_keeps count events machine e =
-    run_from_keeps (start_of count) 0 events machine (λ p c. subst KeepsUp (sym (start_idle count p c)) idle_keeps_up) e
+    run_from_keeps (start_of count) 0 events machine (start_keeps count) e
 
 unmoved : (machine : Machine) (p c : ℕ) (lane : Lane) (q r : ℕ) → ((p ≡ q) × (c ≡ r) → ⊥) → lane_of (with_lane machine p c lane) q r ≡ lane_of machine q r
 unmoved machine p c lane q r ne =
@@ -157,3 +157,16 @@ first_refusal count events place e =
       stands = subst (λ n. slice_get events n ≡ Some found.event) same found.stands;
       refused = found.refused;
     }
+
+-- an event has no next machine exactly where its mailbox isn't ready
+not_put : (page : Bytes) (sent received : List Bytes) (mailbox : Option Bytes) (f : Lane → Machine) → (option_map f (after_put page (record { sent = sent; received = received; mailbox = mailbox })) ≡ None) ↔ IsSome mailbox
+not_put page sent received None f = (λ e. cc, λ e. cc)
+not_put page sent received (Some held) f = (λ e. refl, λ e. refl)
+
+not_got : (sent received : List Bytes) (mailbox : Option Bytes) (f : Lane → Machine) → (option_map f (after_got (record { sent = sent; received = received; mailbox = mailbox })) ≡ None) ↔ IsNone mailbox
+not_got sent received None f = (λ e. refl, λ e. refl)
+not_got sent received (Some held) f = (λ e. cc, λ e. cc)
+
+pub not_ready : (machine : Machine) (event : Event) → (step_of machine event ≡ None) ↔ IsNotReady machine event
+not_ready machine (Put p c page) = let lane : Lane = lane_of machine p c in not_put page lane.sent lane.received lane.mailbox (with_lane machine p c)
+not_ready machine (Got p c) = let lane : Lane = lane_of machine p c in not_got lane.sent lane.received lane.mailbox (with_lane machine p c)

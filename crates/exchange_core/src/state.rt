@@ -1,7 +1,6 @@
-ghost use Rattle.std.specs.Prelude.{◌≡◌, ◌≢◌, ◌↔◌, None, Some, Err, IfOk, OnOk, OnErr};
+ghost use Rattle.std.specs.Prelude.{◌≡◌, ◌≢◌, ◌↔◌, ℕ, None, Some, Err, IfOk, OnOk, OnErr};
 ghost use Rattle.std.specs.Option.{option_copied};
 ghost use Rattle.exchange_core.specs.Machine.{lane_of, start_of, step_of, workers, IsAmong, IsPair, IsSquare, IsWorkerCount};
-ghost use Rattle.exchange_core.specs.declared.event.Event.TheVariants.{Got};
 
 use crate::event::Event;
 use crate::fault::StepFault;
@@ -33,7 +32,9 @@ impl State {
     /// a lane's pages are its later growth.
     pub fn start(alloc: Global, w: u32) -> Result<State, Memory>
         requires { IsWorkerCount w }
-        ensures { IfOk result (λ state. state ≡ start_of w) }
+        ensures ok { IfOk result (λ state. state ≡ start_of w) }
+        ensures workers { IfOk result (λ state. workers state ≡ w) }
+        ensures square { IfOk result IsSquare }
     {
         let outboxes = open_outboxes(alloc, w).map_err(|_| Memory)?;
         Ok(State { outboxes })
@@ -46,6 +47,7 @@ impl State {
         requires { IsAmong (workers self.old) event }
         ensures ok { OnOk result (step_of self.old event ≡ Some self.new) }
         ensures not_now { (result ≡ Err StepFault.NotNow) ↔ (step_of self.old event ≡ None) }
+        ensures got { (p c : ℕ) → event ≡ Event.Got p c → result ≢ Err StepFault.Memory }
         ensures err { OnErr result (self.new ≡ self.old) }
         ensures workers { workers self.new ≡ workers self.old }
         ensures square { IsSquare self.new }

@@ -9,3 +9,6 @@ pub returns-clause-keeps_up : goal.returns-clause-keeps_up
 returns-clause-keeps_up c =
     let ended : run_of c.args.w c.args.events.items ≡ Ok c.loop-place.state = grind (arith, common_steps) in
     run_keeps c.args.w c.args.events.items c.loop-place.state ended
+
+pub returns-clause-square : goal.returns-clause-square
+returns-clause-square c = c.loop-place.invariant.square
