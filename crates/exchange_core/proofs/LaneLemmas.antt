@@ -1,5 +1,5 @@
 -- Put and Got keep a lane's receiver up with its poster.
-use Rattle.std.proofs.Common.{◌≡◌, ℕ, ◌+◌, ◌≤◌, List, [], ◌∷◌, ◌++◌, ◌∙◌, ap, sym, subst, length, length-append, append-nil, Option, Some, None, refl, arith}
+use Rattle.std.proofs.Common.{◌≡◌, List, [], ◌∷◌, ◌++◌, ◌∙◌, ap, sym, subst, length, length-append, append-nil, Option, Some, None, refl, arith}
 use Rattle.exchange_core.specs.Lane.{Lane, Bytes, idle, after_put, after_got}
 use Rattle.exchange_core.specs.Laws.{KeepsUp}
 

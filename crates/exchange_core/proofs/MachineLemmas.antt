@@ -1,5 +1,5 @@
 -- What an event and a run leave of the lanes.
-use Rattle.std.proofs.Common.{◌≡◌, ◌≢◌, ℕ, zero, suc, ◌+◌, ◌≤◌, ◌<◌, List, [], ◌∷◌, ◌++◌, ◌∙◌, ap, ap₂, sym, subst, length, take, replicate, get_or, Option, Some, None, option_map, Result, Ok, Err, ◌↔◌, IsSome, IsNone, ◌⊎◌, inl, inr, refl, arith}
+use Rattle.std.proofs.Common.{◌≡◌, ◌≢◌, ℕ, zero, suc, ◌+◌, ◌<◌, List, [], ◌∷◌, ◌∙◌, ap, ap₂, sym, subst, length, take, replicate, get_or, Option, Some, None, option_map, Result, Ok, Err, ◌↔◌, IsSome, IsNone, ◌⊎◌, inl, inr, refl, arith}
 use Rattle.std.specs.Prelude.{slice_get}
 use Rattle.std.proofs.lemmas.List.{get_or-set_same}
 use Rattle.std.proofs.Math.ListN.{set}

@@ -1,5 +1,5 @@
 -- What holds of the exchange machine over every list of events.
-use Rattle.std.specs.Prelude.{ℕ, ◌≡◌, ◌≢◌, ◌+◌, ◌≤◌, List, [], ◌∷◌, ◌++◌, length, take, Ok, Some, None, IsSome, IsNone, MatchOption, slice_get}
+use Rattle.std.specs.Prelude.{ℕ, ◌≡◌, ◌+◌, ◌≤◌, List, [], ◌∷◌, ◌++◌, length, take, Ok, Some, None, IsSome, IsNone, MatchOption, slice_get}
 use Rattle.exchange_core.specs.Lane.{Lane, Bytes}
 use Rattle.exchange_core.specs.Machine.{Machine, lane_of, step_of, run_of}
 use Rattle.exchange_core.specs.declared.event.Event.{Event}
@@ -14,7 +14,7 @@ pub record KeepsUp (lane : Lane) : Type 0 where
   -- at an empty mailbox both are equal, and a full one holds the page between
   pub between : MatchOption lane.mailbox (lane.sent ≡ lane.received) (λ page. lane.sent ≡ lane.received ++ page ∷ [])
 
--- Each lane's receiver does.
+-- The receiver of every lane does.
 abbrev pub AllKeepUp : Machine → Type 0
 AllKeepUp machine = (p c : ℕ) → KeepsUp (lane_of machine p c)
 

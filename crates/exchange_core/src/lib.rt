@@ -5,6 +5,9 @@
 //!
 //! Its one promise: over every list of events, what a worker received of another is a prefix of what
 //! that one sent to it, at most one page behind, and the mailbox holds exactly the page between.
+//!
+//! A state keeps every page that was sent. So it serves to state the protocol and to try it, and the
+//! crates that move pages in bulk show that they move them as it does.
 #![tactic(auto)]
 
 pub mod event;

@@ -1,5 +1,6 @@
-ghost use Rattle.std.specs.Prelude.{◌≡◌, ◌≢◌, ◌↔◌, ◌<◌, None, Some, Err, IfOk, OnOk, OnErr, option_map, length, replicate, slice_index_or, slice_set};
+ghost use Rattle.std.specs.Prelude.{◌≡◌, ◌≢◌, ◌↔◌, ◌<◌, None, Some, Err, IfOk, OnOk, OnErr, option_map, length, replicate, slice_set};
 ghost use Rattle.exchange_core.specs.Lane.{idle, after_put, after_got};
+ghost use Rattle.exchange_core.specs.Machine.{lane_to};
 
 use crate::fault::StepFault;
 use crate::page::Page;
@@ -37,8 +38,9 @@ impl Outbox {
     /// Puts a page into the mailbox to `c`.
     pub fn put(&mut self, c: usize, page: Page) -> Result<(), StepFault>
         requires { c < length self.old }
-        ensures ok { OnOk result (option_map (slice_set self.old c) (after_put page (slice_index_or self.old c idle)) ≡ Some self.new) }
-        ensures not_now { (result ≡ Err StepFault.NotNow) ↔ (after_put page (slice_index_or self.old c idle) ≡ None) }
+        ensures ok { OnOk result
+            (option_map (slice_set self.old c) (after_put page (lane_to self.old c)) ≡ Some self.new) }
+        ensures not_now { (result ≡ Err StepFault.NotNow) ↔ (after_put page (lane_to self.old c) ≡ None) }
         ensures err { OnErr result (self.new ≡ self.old) }
         ensures len { length self.new ≡ length self.old }
     {
@@ -49,8 +51,9 @@ impl Outbox {
     /// Gets the page that is in the mailbox to `c`. It takes no memory.
     pub fn get(&mut self, c: usize) -> Result<(), StepFault>
         requires { c < length self.old }
-        ensures ok { OnOk result (option_map (slice_set self.old c) (after_got (slice_index_or self.old c idle)) ≡ Some self.new) }
-        ensures not_now { (result ≡ Err StepFault.NotNow) ↔ (after_got (slice_index_or self.old c idle) ≡ None) }
+        ensures ok { OnOk result
+            (option_map (slice_set self.old c) (after_got (lane_to self.old c)) ≡ Some self.new) }
+        ensures not_now { (result ≡ Err StepFault.NotNow) ↔ (after_got (lane_to self.old c) ≡ None) }
         ensures memory { result ≢ Err StepFault.Memory }
         ensures err { OnErr result (self.new ≡ self.old) }
         ensures len { length self.new ≡ length self.old }
@@ -62,7 +65,7 @@ impl Outbox {
     /// The lane to `c`.
     pub fn log(&self, c: usize) -> &PageLog
         requires { c < length self.now }
-        ensures { result.now ≡ slice_index_or self.now c idle }
+        ensures { result.now ≡ lane_to self.now c }
     {
         &self.logs[c]
     }

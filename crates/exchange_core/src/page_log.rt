@@ -22,9 +22,15 @@ impl Model for PageLog {
 
     ghost Value = { Lane };
 
-    ghost view = { λ log. record { sent = log.sent.items; received = take log.received log.sent.items; mailbox = slice_get log.sent.items log.received } };
+    ghost view = { λ log. record {
+      sent = log.sent.items;
+      received = take log.received log.sent.items;
+      mailbox = slice_get log.sent.items log.received;
+    } };
 
-    ghost invariant = { λ log. (log.received ≤ length log.sent.items) × (length log.sent.items ≤ log.received + 1) };
+    // At most one page was sent and isn't received.
+    ghost invariant = { λ log. (log.received ≤ length log.sent.items)
+        × (length log.sent.items ≤ log.received + 1) };
 }
 
 impl PageLog {
@@ -38,8 +44,8 @@ impl PageLog {
         }
     }
 
-    #[tactic(auto, using(crate::proofs::LogLemmas::put_free, crate::proofs::LogLemmas::put_full))]
     /// Puts a page into the mailbox. Only a full mailbox is not ready.
+    #[tactic(auto, using(crate::proofs::LogLemmas::put_free, crate::proofs::LogLemmas::put_full))]
     pub fn put(&mut self, page: Page) -> Result<(), StepFault>
         ensures ok { OnOk result (after_put page self.old ≡ Some self.new) }
         ensures not_now { (result ≡ Err StepFault.NotNow) ↔ (after_put page self.old ≡ None) }
@@ -52,8 +58,8 @@ impl PageLog {
         Ok(())
     }
 
-    #[tactic(auto, using(crate::proofs::LogLemmas::got_full, crate::proofs::LogLemmas::got_empty))]
     /// Gets the page that is in the mailbox. Only an empty mailbox is not ready. It takes no memory.
+    #[tactic(auto, using(crate::proofs::LogLemmas::got_full, crate::proofs::LogLemmas::got_empty))]
     pub fn get(&mut self) -> Result<(), StepFault>
         ensures ok { OnOk result (after_got self.old ≡ Some self.new) }
         ensures not_now { (result ≡ Err StepFault.NotNow) ↔ (after_got self.old ≡ None) }
