@@ -1,5 +1,4 @@
-use Rattle.std.specs.Prelude.{◌≡◌, ℕ, ◌+◌, ◌-◌, ◌*◌, Bool, true, false, not, ◌&&◌, ◌||◌, ◌==◌, nat_le, if◌then◌else◌, List, [], ◌∷◌, length, take, drop, fold, codes, Option, Some, None, option_map, slice_get}
-use Rattle.std.specs.List.{list_all}
+use Rattle.std.specs.Prelude.{◌≡◌, ℕ, Bool, true, false, not, ◌&&◌, ◌||◌, ◌==◌, nat_le, if◌then◌else◌, List, [], ◌∷◌, length, take, drop, codes, Option, Some, None, option_map, slice_get}
 use Rattle.std.specs.Str.{bytes_eq, IsUtf8}
 use Rattle.serde_json.specs.Data.{Data}
 use Rattle.serde_json.specs.Find.{get, at, as_str, as_object}
@@ -10,6 +9,7 @@ use Rattle.flow_types.specs.declared.value.Value.TheVariants as value
 use Rattle.flow_types.specs.declared.expr.BinOp.TheVariants as bin
 use Rattle.flow_types.specs.declared.expr.Expr.{Expr}
 use Rattle.flow_types.specs.declared.expr.Expr.TheVariants as expr
+use Rattle.flow_types.specs.Decimal.{number_up_to}
 use Rattle.flow_types.specs.Limits.{text_limit}
 use Rattle.flow_types.specs.Names.{is_name}
 use Rattle.flow_types.specs.Types.{Fields, is_schema}
@@ -37,21 +37,14 @@ is_member object.Filter name = bytes_eq name (codes "name") || bytes_eq name (co
 abbrev pub has_only : Object → Data → Bool
 has_only form d = all_names (is_member form) (as_object d)
 
-abbrev pub is_digit : ℕ → Bool
-is_digit c = nat_le 48 c && nat_le c 57
-
--- the number that decimal digits write
-abbrev pub number_of : List ℕ → ℕ
-number_of digits = fold (λ n c. n * 10 + (c - 48)) 0 digits
-
--- one to five digits with no zero before others
-abbrev pub is_plain : List ℕ → Bool
-is_plain [] = false
-is_plain (c ∷ cs) = nat_le (length cs) 4 && list_all is_digit (c ∷ cs) && (not (c == 48) || (length cs == 0))
+-- no zero before other digits
+abbrev pub has_no_leading_zero : List ℕ → Bool
+has_no_leading_zero [] = true
+has_no_leading_zero (c ∷ cs) = not (c == 48) || (length cs == 0)
 
 -- a text's bound, from 0 to 16,382
 abbrev pub bound_of : List ℕ → Option ℕ
-bound_of digits = only_if (is_plain digits && nat_le (number_of digits) text_limit) (number_of digits)
+bound_of digits = if has_no_leading_zero digits then number_up_to text_limit digits else None
 
 -- `long`, `bool`, or `str:` and a bound
 abbrev pub type_of_text : List ℕ → Option FieldType

@@ -1,12 +1,12 @@
-ghost use Rattle.std.specs.Prelude.{◌≡◌, ◌≤◌, length, IfOk, map, option_map, option_and_then};
-ghost use Rattle.std.specs.List.{list_all};
+ghost use Rattle.std.specs.Prelude.{◌≡◌, IfOk, map, option_map, option_and_then};
 ghost use Rattle.serde_json.specs.View.{view};
 ghost use Rattle.first_plan.specs.Json.{seen, collected};
-ghost use Rattle.first_plan.specs.FirstForm.{is_digit, number_of, is_plain, bound_of, type_of_text, field_type, schema_of, source_of};
+ghost use Rattle.first_plan.specs.FirstForm.{has_no_leading_zero, bound_of, type_of_text, field_type, schema_of, source_of};
 
 use crate::json::{is_text, items_in, name_of};
 use crate::members::{Object, has_only};
 use flow_outside::failure::Memory;
+use flow_types::decimal::number_up_to;
 use flow_types::field_type::FieldType;
 use flow_types::name::Name;
 use flow_types::schema::Schema;
@@ -111,51 +111,22 @@ fn type_of_text(text: &str) -> Option<FieldType>
     None
 }
 
-/// A text's bound, of one to five digits with no zero before others.
+/// A text's bound, of digits with no zero before others.
 fn bound_of(digits: &[u8]) -> Option<u16>
     ensures { result ≡ bound_of digits.now }
 {
-    if !is_plain(digits) {
+    if !has_no_leading_zero(digits) {
         return None;
     }
-    let number = number_of(digits);
-    if number > TEXT_LIMIT as u32 {
-        return None;
-    }
-    Some(number as u16)
+    let bound = number_up_to(digits, TEXT_LIMIT as u64)?;
+    Some(bound as u16)
 }
 
-fn is_plain(digits: &[u8]) -> bool
-    ensures { result ≡ is_plain digits.now }
+fn has_no_leading_zero(digits: &[u8]) -> bool
+    ensures { result ≡ has_no_leading_zero digits.now }
 {
     match digits {
-        [] => false,
-        [first, rest @ ..] => rest.len() <= 4
-            && all_digits(digits)
-            && (*first != 48 || rest.is_empty()),
+        [] => true,
+        [first, rest @ ..] => *first != b'0' || rest.is_empty(),
     }
-}
-
-fn all_digits(bytes: &[u8]) -> bool
-    ensures { result ≡ list_all is_digit bytes.now }
-{
-    bytes.iter().all(|byte| is_digit(*byte))
-}
-
-fn is_digit(byte: u8) -> bool
-    ensures { result ≡ is_digit byte }
-{
-    48 <= byte && byte <= 57
-}
-
-/// The number that at most five digits write.
-fn number_of(digits: &[u8]) -> u32
-    requires { length digits.now ≤ 5 }
-    ensures { result ≡ number_of digits.now }
-{
-    let mut number = 0;
-    for digit in digits {
-        number = number * 10 + u32::from(digit.saturating_sub(48));
-    }
-    number
 }

@@ -1,3 +1,4 @@
+pub mod DecimalLemmas
 pub mod OrderLaws
 pub mod SortLaws
 pub mod TupleLemmas

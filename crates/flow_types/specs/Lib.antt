@@ -1,3 +1,4 @@
+pub mod Decimal
 pub mod Limits
 pub mod Names
 pub mod Values

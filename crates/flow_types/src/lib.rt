@@ -6,6 +6,7 @@
 #![tactic(auto)]
 
 pub mod agg;
+pub mod decimal;
 pub mod expr;
 pub mod field_type;
 pub mod name;
