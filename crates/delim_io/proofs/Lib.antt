@@ -1,3 +1,4 @@
 pub mod FieldLemmas
 pub mod CutLemmas
 pub mod LineLemmas
+pub mod CsvLemmas

@@ -1,4 +1,4 @@
-use Rattle.std.specs.Prelude.{◌≡◌, ◌≢◌, ℕ, ◌==◌, nat_le, Bool, not, false, ◌&&◌, ◌||◌, if◌then◌else◌, List, [], ◌∷◌, length, Option, Some, None}
+use Rattle.std.specs.Prelude.{◌≡◌, ℕ, ◌==◌, nat_le, Bool, not, false, ◌&&◌, ◌||◌, if◌then◌else◌, List, [], ◌∷◌, length, Option, Some, None}
 use Rattle.std.specs.List.{list_all, slice_split}
 use Rattle.csv.specs.Machine.{Read, next_record}
 use Rattle.csv.specs.Reading.{default_config, is_bom, strip_bom}
@@ -16,6 +16,10 @@ input_limit = 65536
 -- neither a quote nor a carriage return
 abbrev pub is_plain_byte : ℕ → Bool
 is_plain_byte b = not (b == 34 || b == 13)
+
+-- no byte that csv sets apart in a line: neither a quote, a carriage return nor a line feed
+abbrev pub is_unmarked : ℕ → Bool
+is_unmarked b = is_plain_byte b && not (b == 10)
 
 -- the parts of a text between the bytes of one kind; one more than there are such bytes
 abbrev pub parts_at : ℕ → List ℕ → List (List ℕ)
@@ -50,3 +54,11 @@ abbrev pub rows_of : Fields → ℕ → List ℕ → Option (List Tuple)
 rows_of fields delimiter bytes =
     if nat_le (length bytes) input_limit && list_all is_plain_byte bytes then tuples_of_parts fields delimiter (parts_at 10 bytes)
     else None
+
+-- what csv reads of a line with this delimiter: the fields of the first record, and what is left behind it
+abbrev pub csv_record : ℕ → List ℕ → Option Read
+csv_record delimiter line = next_record (record default_config { delimiter = delimiter }) st.StartRecord [] [] (strip_bom line)
+
+-- csv reads a line as its parts between the delimiters, and nothing is left
+abbrev pub IsReadAsParts : ℕ → List ℕ → Type 0
+IsReadAsParts delimiter line = csv_record delimiter line ≡ Some (parts_at delimiter line, st.StartRecord, [])

@@ -10,3 +10,4 @@ mod field;
 pub mod first_form;
 pub mod input_fault;
 pub mod input_kind;
+pub mod plain_line;
