@@ -2,3 +2,4 @@ pub mod FieldLemmas
 pub mod CutLemmas
 pub mod LineLemmas
 pub mod CsvLemmas
+pub mod LineTextLemmas

@@ -11,3 +11,4 @@ pub mod first_form;
 pub mod input_fault;
 pub mod input_kind;
 pub mod plain_line;
+pub mod result_text;
