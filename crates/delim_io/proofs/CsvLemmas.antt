@@ -52,7 +52,7 @@ inside d fields field (b ∷ rest) e = elim (cases_Bool (b == d)) [
       let later = (and_parts _ _ e).1 in
       let some : 0 < length (parts_at d rest) = omega (arith, length-slice_split (λ x. x == d) rest) in
       let list : (fields ++ field ∷ []) ++ joined [] (parts_at d rest) ≡ fields ++ (field ++ []) ∷ parts_at d rest =
-          rw (joined_nothing (parts_at d rest) some, append-nil field) (append_assoc fields (field ∷ []) (parts_at d rest)) in
+      rw (joined_nothing (parts_at d rest) some, append-nil field) (append_assoc fields (field ∷ []) (parts_at d rest)) in
       rw same (start_as_inside d (fields ++ field ∷ []) rest later ∙ inside d (fields ++ field ∷ []) [] rest later ∙ ap (λ (l : List (List ℕ)). Some (l, st.StartRecord, [])) list)
   | inr other ↦
       let both = and_parts _ _ e in

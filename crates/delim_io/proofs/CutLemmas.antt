@@ -22,10 +22,10 @@ pub cut_here : (byte : ℕ) (text : List ℕ) (at : ℕ) → IsFirstByte (is_byt
 cut_here byte text at h =
     let p : ℕ → Bool = λ b. b == byte in
     let before : (k : ℕ) → k < length (take at text) → p (get_or (take at text) k 0) ≡ false = λ k lt.
-        let low : k < at = omega (arith, length-take at text) in
-        rw (get_or-take at text k 0 low) (no_true _ (h.0.before k (omega arith) low)) in
+    let low : k < at = omega (arith, length-take at text) in
+    rw (get_or-take at text k 0 low) (no_true _ (h.0.before k (omega arith) low)) in
     let around : text ≡ take at text ++ get_or text at 0 ∷ drop (at + 1) text =
-        sym (take-append-drop at text) ∙ ap (λ l. take at text ++ l) (drop_more text at 0 h.0.high) in
+    sym (take-append-drop at text) ∙ ap (λ l. take at text ++ l) (drop_more text at 0 h.0.high) in
     ap (parts_at byte) around
     ∙ slice_split_at p (take at text) (get_or text at 0) (drop (at + 1) text) (All-from_get_or (λ b. p b ≡ false) (take at text) 0 before) h.1
     ∙ ap (λ l. take at text ∷ parts_at byte l) (sym (range_to_end text (at + 1)))

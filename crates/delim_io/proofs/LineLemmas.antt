@@ -137,14 +137,14 @@ module _ (fields : Fields) (delimiter : ℕ) (bytes : List ℕ) (tuples : List T
   pub line_refused : (line after : List ℕ) → parts_at 10 rest ≡ line ∷ parts_at 10 after → tuple_of_line fields delimiter line ≡ None → rows_of fields delimiter bytes ≡ None
   line_refused line after cut refused =
       let left : tuples_of_parts fields delimiter (parts_at 10 rest) ≡ None =
-          rw (first_line fields delimiter rest line after cut, refused) (none_first (tuples_of_parts fields delimiter (parts_at 10 after))) in
+      rw (first_line fields delimiter rest line after cut, refused) (none_first (tuples_of_parts fields delimiter (parts_at 10 after))) in
       no_rows fields delimiter bytes (passed ∙ ap (onto tuples) left)
 
   -- a line has a tuple
   pub line_passed : (line after : List ℕ) (t : Tuple) → parts_at 10 rest ≡ line ∷ parts_at 10 after → tuple_of_line fields delimiter line ≡ Some t → Passed fields delimiter bytes (tuples ++ t ∷ []) after
   line_passed line after t cut found =
       let left : tuples_of_parts fields delimiter (parts_at 10 rest) ≡ and_then_all (Some t) (tuples_of_parts fields delimiter (parts_at 10 after)) =
-          rw (first_line fields delimiter rest line after cut, found) refl in
+      rw (first_line fields delimiter rest line after cut, found) refl in
       passed ∙ ap (onto tuples) left ∙ onto_more tuples t (tuples_of_parts fields delimiter (parts_at 10 after))
 
   -- every line was passed

@@ -59,7 +59,7 @@ pub text_more : (writer new : Writer (Vec ℕ)) (text : List ℕ) (fields : List
 text_more writer new text fields before setup no_field no_byte written =
     let plain : (writer_setup writer).style ≢ style.NonNumeric = rw before.setup (λ e. cc) in
     let line : row_text (writer_setup writer) fields ≡ row_text default_writer fields =
-        ap (λ cfg. row_text cfg fields) before.setup ∙ row_same fields in
+    ap (λ cfg. row_text cfg fields) before.setup ∙ row_same fields in
     let front : text_held writer ≡ text = cc before.holds in
     record {
       setup = setup ∙ before.setup;
@@ -101,18 +101,18 @@ module _ (rows : List Tuple) (at end : ℕ) (up : at ≤ end) (old middle new : 
       let back = lines_of (drop end rows) in
       let all : lines_of rows ≡ front ++ (piece ++ back) = lines_around rows at end up in
       let cut : take (length front + part.count) (lines_of rows) ≡ front ++ take part.count piece =
-          ap (take (length front + part.count)) all
-          ∙ take-append-add front (piece ++ back) part.count
-          ∙ ap (λ l. front ++ l) (take-append-le part.count piece back (omega (arith, part.proper))) in
+      ap (take (length front + part.count)) all
+      ∙ take-append-add front (piece ++ back) part.count
+      ∙ ap (λ l. front ++ l) (take-append-le part.count piece back (omega (arith, part.proper))) in
       let below : length front + part.count < length (lines_of rows) =
-          omega (arith, ap length all, length-append front (piece ++ back), length-append piece back, part.proper) in
+      omega (arith, ap length all, length-append front (piece ++ back), length-append piece back, part.proper) in
       record {
         count = length front + part.count;
         proper = below;
         appended = part.appended
-          ∙ ap (λ told. with_text told (take part.count piece)) first
-          ∙ appends_more old front (take part.count piece)
-          ∙ ap (with_text old) (sym cut);
+            ∙ ap (λ told. with_text told (take part.count piece)) first
+            ∙ appends_more old front (take part.count piece)
+            ∙ ap (with_text old) (sym cut);
       }
 
   -- the lines up to one place were taken, and no more

@@ -12,3 +12,5 @@ pub mod input_fault;
 pub mod input_kind;
 pub mod plain_line;
 pub mod result_text;
+#[cfg(test)]
+mod tests;

@@ -14,8 +14,8 @@ loop-row-preserved c =
     let front = lines_of (take at rows) in
     let texts = c.in_ok-push_fields.ensures ∙ ap (map value_text) c.values.ensures in
     let all = ap (λ l. front ++ row_text default_writer l) texts
-        ∙ ap (λ t. front ++ row_line t) c.row-item.is
-        ∙ sym (lines_more rows at c.row-item.result c.loop-row-test.true) in
+    ∙ ap (λ t. front ++ row_line t) c.row-item.is
+    ∙ sym (lines_more rows at c.row-item.result c.loop-row-test.true) in
     subst (HoldsText c.write_line.new.writer) all (c.in_ok-write_line.ensures front c.loop-row.invariant)
 
 pub returns : goal.returns
