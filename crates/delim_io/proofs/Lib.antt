@@ -1,0 +1,5 @@
+pub mod FieldLemmas
+pub mod CutLemmas
+pub mod LineLemmas
+pub mod CsvLemmas
+pub mod LineTextLemmas

@@ -1,0 +1,59 @@
+use Rattle.std.specs.Prelude.{ℕ, ◌-◌, ◌^◌, ◌==◌, nat_le, Bool, true, false, ◌&&◌, if◌then◌else◌, List, [], ◌∷◌, length, ℤ, pos, neg_ℤ, Option, Some, None, option_map, codes}
+use Rattle.std.specs.List.{list_all}
+use Rattle.std.specs.Char.{is_ascii_digit}
+use Rattle.std.specs.Str.{bytes_eq, is_utf8}
+use Rattle.std.specs.Str.Parse.{digits_value}
+use Rattle.flow_types.specs.declared.value.Value.{Value}
+use Rattle.flow_types.specs.declared.value.Value.TheVariants as value
+use Rattle.flow_types.specs.declared.field_type.FieldType.{FieldType}
+use Rattle.flow_types.specs.declared.field_type.FieldType.TheVariants as type
+use Rattle.flow_types.specs.Types.{Fields}
+use Rattle.flow_types.specs.Tuples.{Tuple}
+
+-- The text of a field, and the value that it stands for. The rules are this project's own.
+
+-- at least one byte, and each is a decimal digit
+abbrev pub is_numeral : List ℕ → Bool
+is_numeral text = nat_le 1 (length text) && list_all is_ascii_digit text
+
+-- the number that a numeral writes, where it is at most `most`; leading zeros are allowed
+abbrev pub number_up_to : ℕ → List ℕ → Option ℕ
+number_up_to most text = if is_numeral text && nat_le (digits_value 10 text) most then Some (digits_value 10 text) else None
+
+-- a Long: an optional `-` and a numeral, with a value from -2^63 to 2^63 - 1
+abbrev pub long_value : List ℕ → Option ℤ
+long_value [] = None
+long_value (b ∷ rest) =
+    if b == 45 then option_map (λ n. neg_ℤ (pos n)) (number_up_to (2 ^ 63) rest)
+    else option_map pos (number_up_to (2 ^ 63 - 1) (b ∷ rest))
+
+-- a Bool: exactly `true` or `false`
+abbrev pub bool_value : List ℕ → Option Bool
+bool_value text =
+    if bytes_eq text (codes "true") then Some true
+    else if bytes_eq text (codes "false") then Some false
+    else None
+
+-- a Str: UTF-8 of at most `bound` bytes
+abbrev pub text_value : ℕ → List ℕ → Option (List ℕ)
+text_value bound text = if nat_le (length text) bound && is_utf8 text then Some text else None
+
+-- the value of a field's text, where it is one of the field's type
+abbrev pub field_value : FieldType → List ℕ → Option Value
+field_value type.Long text = option_map value.Long (long_value text)
+field_value type.Bool text = option_map value.Bool (bool_value text)
+field_value (type.Str bound) text = option_map value.Str (text_value bound text)
+
+-- a first part and the others, where both are there
+abbrev pub and_then_all : {X : Type 0} → Option X → Option (List X) → Option (List X)
+and_then_all None None = None
+and_then_all None (Some xs) = None
+and_then_all (Some x) None = None
+and_then_all (Some x) (Some xs) = Some (x ∷ xs)
+
+-- the tuple of the texts of a line's fields: as many as the schema has, each with a value of its type
+abbrev pub tuple_of : Fields → List (List ℕ) → Option Tuple
+tuple_of [] [] = Some []
+tuple_of [] (text ∷ texts) = None
+tuple_of (f ∷ fs) [] = None
+tuple_of (f ∷ fs) (text ∷ texts) = and_then_all (field_value f text) (tuple_of fs texts)

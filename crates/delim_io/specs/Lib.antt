@@ -1,0 +1,4 @@
+pub mod Fields
+pub mod Input
+pub mod LineWriter
+pub mod ResultText
