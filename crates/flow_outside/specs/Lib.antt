@@ -1,5 +1,6 @@
 pub mod Blocks
 pub mod Causes
+pub mod Files
 pub mod Readers
 pub mod Told
 pub mod Words

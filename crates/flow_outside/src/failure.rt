@@ -1,3 +1,4 @@
+use std::alloc::{AllocError, AllocFailed};
 use thiserror::Error;
 
 /// A call to the outside failed. The object's count of faults rose in that call.
@@ -9,6 +10,18 @@ pub struct Failed;
 #[derive(Clone, Copy, Debug, PartialEq, Eq, Error)]
 #[error("out of memory")]
 pub struct Memory;
+
+impl From<AllocError> for Memory {
+    fn from(_refused: AllocError) -> Memory {
+        Memory
+    }
+}
+
+impl<T: Drop> From<AllocFailed<T>> for Memory {
+    fn from(_refused: AllocFailed<T>) -> Memory {
+        Memory
+    }
+}
 
 /// A stream of spilled records ended early.
 #[derive(Clone, Copy, Debug, PartialEq, Eq, Error)]

@@ -7,6 +7,7 @@
 
 pub mod failure;
 pub mod gate;
+pub mod read_file;
 pub mod shelf;
 pub mod sink;
 pub mod spill;
