@@ -1,0 +1,28 @@
+ghost use Rattle.std.specs.Prelude.{◌≡◌};
+ghost use Rattle.outside_memory.specs.Calls.{next_call, is_listed};
+
+/// The calls that were made, and which of them fail. Calls are counted from 1.
+#[derive(Debug, Drop)]
+pub(crate) struct Calls {
+    made: u64,
+    failing: Vec<u64>,
+}
+
+impl Calls {
+    /// No call was made, and those of these numbers will fail.
+    pub(crate) fn new(failing: Vec<u64>) -> Calls
+        ensures { (result.made ≡ 0) × (result.failing ≡ failing) }
+    {
+        Calls { made: 0, failing }
+    }
+
+    /// Counts one more call, and tells whether it fails.
+    pub(crate) fn next_fails(&mut self) -> bool
+        ensures made { self.new.made ≡ next_call self.old.made }
+        ensures same { self.new.failing ≡ self.old.failing }
+        ensures listed { result ≡ is_listed self.old.failing.items (next_call self.old.made) }
+    {
+        self.made = self.made.saturating_add(1);
+        self.failing.contains(&self.made)
+    }
+}
