@@ -10,6 +10,7 @@ pub mod gate;
 pub mod read_file;
 pub mod shelf;
 pub mod sink;
+pub mod slots;
 pub mod spill;
 pub mod words;
 pub mod write_all;

@@ -1,6 +1,5 @@
 use Rattle.std.specs.Prelude.{ℕ, ◌+◌, ◌==◌, if◌then◌else◌, List, drop, Option, Some, None}
-use Rattle.std.specs.List.{slice_index_or, count_by}
-use Rattle.std.specs.Option.{is_some}
+use Rattle.std.specs.List.{slice_index_or}
 use Rattle.flow_outside.specs.Readers.{Reading, Readers}
 use Rattle.outside_memory.specs.declared.places.Place.{Place}
 use Rattle.outside_memory.specs.Files.{File, name_in, bytes_in}
@@ -14,10 +13,6 @@ reading_at files (Some place) =
 -- The reader of each number, by its place.
 abbrev pub readers_in : List File → List (Option Place) → Readers
 readers_in files places = λ id. reading_at files (slice_index_or places id None)
-
--- How many readers live.
-abbrev pub living_in : List (Option Place) → ℕ
-living_in places = count_by is_some places
 
 -- The place of a reader that gave `count` more bytes: 0 ends it.
 abbrev pub place_after : Place → ℕ → Option Place

@@ -5,9 +5,10 @@ use crate::calls::Calls;
 use crate::counts::Counts;
 use crate::file_name::FileName;
 use crate::files::{File, copy_front, name_at, place_of, rest_of};
-use crate::places::{Place, READERS, go_on, place_of_reader, start};
+use crate::places::{Place, go_on, place_of_reader, start};
 use flow_outside::failure::{Failed, Memory};
 use flow_outside::shelf::Shelf;
+use flow_outside::slots::READERS;
 use std::alloc::Global;
 
 /// Files in memory. They tell their bytes.
@@ -52,7 +53,8 @@ impl MemShelf {
 impl Shelf for MemShelf {
     ghost use Rattle.outside_memory.specs.Files.{file_at, told_in};
     ghost use Rattle.outside_memory.specs.Counts.{count_in};
-    ghost use Rattle.outside_memory.specs.Places.{readers_in, living_in};
+    ghost use Rattle.outside_memory.specs.Places.{readers_in};
+    ghost use Rattle.flow_outside.specs.Slots.{living_in};
 
     ghost told = { λ shelf. told_in shelf.files.items };
 

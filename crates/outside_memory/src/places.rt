@@ -1,29 +1,14 @@
 ghost use Rattle.std.specs.Prelude.{◌≡◌, ◌≢◌, ◌+◌, ◌^◌, ◌<◌, vec_len, slice_set, slice_index_or};
-ghost use Rattle.outside_memory.specs.Places.{living_in, place_after};
+ghost use Rattle.outside_memory.specs.Places.{place_after};
+ghost use Rattle.flow_outside.specs.Slots.{living_in};
 
-/// How many readers may live at once.
-pub(crate) const READERS: usize = 80;
+use flow_outside::slots::{READERS, free_number};
 
 /// Where a reader is: in which file, and behind how many of its bytes.
 #[derive(Clone, Copy, Debug)]
 pub(crate) struct Place {
     pub(crate) file: usize,
     pub(crate) at: usize,
-}
-
-/// A number that no living reader has.
-fn free_number(places: &Vec<Option<Place>>) -> usize
-    requires reserved { vec_len places.now ≡ READERS }
-    requires room { living_in places.now.items < READERS }
-    ensures within { result < READERS }
-    ensures free { slice_index_or places.now.items result None ≡ None }
-{
-    for id in 0..READERS {
-        if places[id].is_none() {
-            return id;
-        }
-    }
-    unreachable!()
 }
 
 /// Starts a reader at the first byte of a file, and gives its number, which no living reader had.
