@@ -3,10 +3,9 @@ ghost use Rattle.flow_outside.specs.Causes.{Rose};
 ghost use Rattle.flow_outside.specs.Told.{IfTold};
 ghost use Rattle.flow_outside.specs.Files.{ReadsAll, LeavesAtMostOne};
 
-use std::alloc::{AllocError, Global};
-
 use crate::failure::Failed;
 use crate::shelf::Shelf;
+use std::alloc::{AllocError, Global};
 use thiserror::Error;
 
 /// How many bytes are read at once, at most.

@@ -1,13 +1,12 @@
-// A library with one function.
+//! The outside that the machine has: real files, and the two standard outputs. It stands on
+//! `flow_outside`.
+//!
+//! Its one promise: each call fails only where the count of faults rose. It tells nothing of what a
+//! file or a terminal holds.
 #![tactic(auto)]
 
-ghost use Rattle.std.specs.Prelude.{◌≡◌};
-ghost use Rattle.outside_host.specs.Echo.{echo_of};
-
-// The `ensures` clause is the contract: what `echo` returns is `echo_of` of its argument, a definition
-// in `specs/Echo.antt`, which a caller's clause can cite too.
-pub fn echo(x: usize) -> usize
-    ensures { result ≡ echo_of x }
-{
-    x
-}
+pub mod file_shelf;
+mod slots;
+pub mod stderr_sink;
+pub mod stdout_sink;
+mod write_some;

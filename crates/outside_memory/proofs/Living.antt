@@ -1,7 +1,7 @@
 use Rattle.std.proofs.Common.{◌≡◌, ◌≢◌, ℕ, ◌+◌, ◌<◌, Option, Some, None, List, length, drop, slice_index_or, slice_set, refl, ap, ◌∙◌, sym, arith}
 use Rattle.flow_outside.specs.Readers.{Reading, Starts, LosesPlace}
 use Rattle.flow_outside.specs.Slots.{living_in}
-use Rattle.flow_outside.proofs.Living.{lives_once, living_changes, others_stand, reader_changed}
+use Rattle.flow_outside.proofs.Living.{starts as starts_in}
 use Rattle.outside_memory.specs.declared.places.Place.{Place}
 use Rattle.outside_memory.specs.Files.{File, file_at, told_in, bytes_in}
 use Rattle.outside_memory.specs.Places.{reading_at, readers_in}
@@ -19,19 +19,10 @@ pub starts : (files : List File) (places started : List (Option Place)) (name : 
     → started ≡ slice_set places id (Some (record { file = file; at = 0 }))
     → Starts (readers_in files places) (readers_in files started) name (told_in files name) id × (living_in started ≡ living_in places + 1)
 starts files places started name file id found within free change =
-    let place : Option Place = Some (record { file = file; at = 0 }) in
-    let counted = living_changes places id place within in
-    let none : lives_once (slice_index_or places id None) ≡ 0 = ap lives_once free in
-    let same : living_in started ≡ living_in (slice_set places id place) = ap living_in change in (
-      record {
-        fresh = ap (reading_at files) free;
-        lives = reader_changed (reading_at files) places started id place within change
-            ∙ ap (λ name. reader name (Some (bytes_in files file))) (named files name file found)
-            ∙ ap (reader name) (sym (told_of files name file found));
-        others = others_stand (reading_at files) places started id place change;
-      },
-      omega arith,
-    )
+    starts_in (reading_at files) places started id _ name _ refl
+    (ap (λ name. reader name (Some (bytes_in files file))) (named files name file found)
+    ∙ ap (reader name) (sym (told_of files name file found)))
+    within free change
 
 -- A reader that stays has only lost its place for those who look on.
 pub loses_place : (files : List File) (place : Option Place) → reading_at files place ≢ None → LosesPlace (reading_at files place) (reading_at files place)

@@ -8,7 +8,7 @@ pieces-init g c = record {
   room = search rules;
   tells = search rules;
   later = search rules;
-  midway = midway_start _ _ _ _ _ _ _ _ c.in_ok-id.ensures.started.0 c.in_ok-id.ensures.started.1 (search rules)
+  midway = midway_start _ _ _ _ _ _ _ _ c.in_ok-id.ensures.started.0 c.in_ok-id.ensures.started.1 (search rules);
 }
 
 pub returns-in_err-count-clause-left : goal.returns-in_err-count-clause-left
@@ -19,7 +19,7 @@ returns-in_err-count-clause-left g c =
 pub returns-then-count-eq0-clause-whole : goal.returns-then-count-eq0-clause-whole
 returns-then-count-eq0-clause-whole g c = record {
   whole = midway_whole _ _ _ _ _ _ _ _ _ _ c.pieces.invariant.midway c.in_ok-count.ensures.given (search rules);
-  within = search rules
+  within = search rules;
 }
 
 pub returns-then-count-eq0-clause-ended : goal.returns-then-count-eq0-clause-ended
@@ -30,7 +30,7 @@ pieces-preserved g c = record {
   room = search rules;
   tells = search rules;
   later = λ k. search rules;
-  midway = midway_more _ _ _ _ _ _ _ _ _ _ _ _ _ c.pieces.invariant.midway c.read.ensures.others c.in_ok-count.ensures.given c.in_ok-count.ensures.goes_on (search rules) (c.in_ok-extend_from_slice.ensures.items ∙ ap (λ piece. c.pieces.bytes.items ++ piece) (ap (take c.in_ok-count.count) (c.deref.ensures.value ∙ written_back _ _ _ (search rules))))
+  midway = midway_more _ _ _ _ _ _ _ _ _ _ _ _ _ c.pieces.invariant.midway c.read.ensures.others c.in_ok-count.ensures.given c.in_ok-count.ensures.goes_on (search rules) (c.in_ok-extend_from_slice.ensures.items ∙ ap (λ piece. c.pieces.bytes.items ++ piece) (ap (take c.in_ok-count.count) (c.deref.ensures.value ∙ written_back _ _ _ (search rules))));
 }
 
 pub returns-in_err-extend_from_slice-clause-left : goal.returns-in_err-extend_from_slice-clause-left
