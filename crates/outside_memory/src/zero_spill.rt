@@ -1,5 +1,5 @@
-ghost use Rattle.std.specs.Prelude.{◌≡◌, ◌↔◌, ◌+◌, ◌^◌, ◌≤◌, IsErr, List, OnOk, OnErr, Ok, None, length, Option};
-ghost use Rattle.std.specs.List.{repeat};
+ghost use Rattle.std.specs.Prelude.{◌≡◌, ◌+◌, ◌^◌, ◌<◌, ◌≤◌, IsOk, OnOk, OnErr, All, None};
+ghost use Rattle.flow_outside.specs.Causes.{HasCause};
 
 use flow_outside::failure::Failed;
 use flow_outside::spill::Spill;
@@ -36,7 +36,11 @@ impl Spill for ZeroSpill {
 
     ghost given = { λ disk. disk.given };
 
-    fn fresh(&mut self) -> Result<u64, Failed> {
+    fn fresh(&mut self) -> Result<u64, Failed>
+        ensures cause { HasCause self.old.faults self.new.faults result }
+        ensures counted { OnOk result ((self.old.given < 2 ^ 44) × (self.new.given ≡ self.old.given + 1)) }
+        ensures used_up { OnErr result ((2 ^ 44 ≤ self.old.given) × (self.new.given ≡ self.old.given)) }
+    {
         if self.given < BLOCKS {
             self.given += 1;
             return Ok(self.given);
@@ -45,14 +49,17 @@ impl Spill for ZeroSpill {
         Err(Failed)
     }
 
-    fn put(&mut self, _block: u64, _page: &[u8]) -> Result<(), Failed> {
+    fn put(&mut self, _block: u64, _page: &[u8]) -> Result<(), Failed>
+        ensures { IsOk result × (self.new ≡ self.old) }
+    {
         Ok(())
     }
 
-    fn get(&mut self, _block: u64, page: &mut [u8]) -> Result<(), Failed> {
-        for byte in page.iter_mut() {
-            *byte = 0;
-        }
+    fn get(&mut self, _block: u64, page: &mut [u8]) -> Result<(), Failed>
+        ensures kept { IsOk result × (self.new ≡ self.old) }
+        ensures zeros { All (λ byte. byte ≡ 0) page.new }
+    {
+        page.fill(0);
         Ok(())
     }
 
