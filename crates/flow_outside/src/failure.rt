@@ -1,3 +1,5 @@
+ghost use Rattle.std.specs.Prelude.{◌≡◌, ◌+◌, ◌-◌, ◌^◌, ◌≤◌, min};
+
 use std::alloc::{AllocError, AllocFailed};
 use thiserror::Error;
 
@@ -5,6 +7,15 @@ use thiserror::Error;
 #[derive(Clone, Copy, Debug, PartialEq, Eq, Error)]
 #[error("the device failed")]
 pub struct Failed;
+
+/// Counts one more fault, and gives the answer for it. The count stands still at its type's end.
+pub fn count_fault(count: &mut u64) -> Failed
+    ensures later { count.old ≤ count.new }
+    ensures one_more { count.new ≡ min (count.old + 1) (2 ^ 64 - 1) }
+{
+    *count = count.saturating_add(1);
+    Failed
+}
 
 /// Want of memory.
 #[derive(Clone, Copy, Debug, PartialEq, Eq, Error)]

@@ -3,7 +3,7 @@ ghost use Rattle.flow_outside.specs.Slots.{living_in};
 ghost use Rattle.outside_host.specs.Slots.{readers_in};
 
 use crate::slots::{no_readers, open_named, read_slot, start};
-use flow_outside::failure::{Failed, Memory};
+use flow_outside::failure::{Failed, Memory, count_fault};
 use flow_outside::shelf::Shelf;
 use std::alloc::Global;
 use std::fs::Files;
@@ -46,20 +46,14 @@ impl<'a, R: Files + Drop> Shelf for FileShelf<'a, R> {
     fn open(&mut self, name: &str) -> Result<u32, Failed> {
         match open_named(self.rt, self.alloc, name) {
             Some((name, file)) => Ok(start(&mut self.slots, name, file)),
-            None => {
-                self.faults = self.faults.saturating_add(1);
-                Err(Failed)
-            }
+            None => Err(count_fault(&mut self.faults)),
         }
     }
 
     fn read(&mut self, id: u32, into: &mut [u8]) -> Result<usize, Failed> {
         match read_slot(&mut self.slots, id, into) {
             Some(count) => Ok(count),
-            None => {
-                self.faults = self.faults.saturating_add(1);
-                Err(Failed)
-            }
+            None => Err(count_fault(&mut self.faults)),
         }
     }
 

@@ -1,7 +1,7 @@
 ghost use Rattle.std.specs.Prelude.{◌≡◌, ◌<◌, ◌≤◌, IfOk, length};
 ghost use Rattle.flow_outside.specs.Causes.{HasCause};
 
-use flow_outside::failure::Failed;
+use flow_outside::failure::{Failed, count_fault};
 
 /// Writes the first bytes of `bytes`, and gives their number. Where that is none, though there are
 /// some, the write has failed. A failure is counted.
@@ -12,9 +12,6 @@ pub(crate) fn write_some<P: Print>(out: &P, faults: &mut u64, bytes: &[u8]) -> R
 {
     match out.write_some(bytes) {
         Ok(count) if count > 0 || bytes.is_empty() => Ok(count),
-        _ => {
-            *faults = faults.saturating_add(1);
-            Err(Failed)
-        }
+        _ => Err(count_fault(faults)),
     }
 }

@@ -1,5 +1,5 @@
-ghost use Rattle.std.specs.Prelude.{◌≡◌};
-ghost use Rattle.outside_memory.specs.Calls.{next_call, is_listed};
+ghost use Rattle.std.specs.Prelude.{◌≡◌, ◌↔◌, IsTrue};
+ghost use Rattle.outside_memory.specs.Calls.{NextFails, HasCalled};
 
 /// The calls that were made, and which of them fail. Calls are counted from 1.
 #[derive(Debug, Drop)]
@@ -18,9 +18,8 @@ impl Calls {
 
     /// Counts one more call, and tells whether it fails.
     pub(crate) fn next_fails(&mut self) -> bool
-        ensures made { self.new.made ≡ next_call self.old.made }
-        ensures same { self.new.failing ≡ self.old.failing }
-        ensures listed { result ≡ is_listed self.old.failing.items (next_call self.old.made) }
+        ensures called { HasCalled self.old self.new }
+        ensures listed { IsTrue result ↔ NextFails self.old }
     {
         self.made = self.made.saturating_add(1);
         self.failing.contains(&self.made)

@@ -14,3 +14,6 @@ pub mod mem_sink;
 pub mod no_gate;
 mod places;
 pub mod zero_spill;
+
+#[cfg(test)]
+mod tests;

@@ -1,4 +1,7 @@
-ghost use Rattle.std.specs.Prelude.{◌≡◌, ℕ, List, None, Option, IfOk, vec_len};
+ghost use Rattle.std.specs.Prelude.{◌≡◌, ◌≢◌, ◌↔◌, ◌⊎◌, ℕ, ◌+◌, ◌<◌, ◌≤◌, List, None, IfOk, OnErr, IsErr, length, min, vec_len};
+ghost use Rattle.flow_outside.specs.Causes.{HasCause};
+ghost use Rattle.flow_outside.specs.Told.{IfTold};
+ghost use Rattle.flow_outside.specs.Readers.{Lives, OthersStand, Starts, GivesNext, GoesOn, LosesPlace, name_of, left_of};
 ghost use Rattle.outside_memory.specs.Files.{told_in};
 
 use crate::calls::Calls;
@@ -38,6 +41,7 @@ impl MemShelf {
         ensures none_lives { IfOk result (λ shelf. (id : ℕ) → ⟦<MemShelf as Shelf>⟧.readers shelf id ≡ None) }
         ensures living { IfOk result (λ shelf. ⟦<MemShelf as Shelf>⟧.living shelf ≡ 0) }
         ensures no_fault { IfOk result (λ shelf. (name : List ℕ) → ⟦<MemShelf as Shelf>⟧.faults_at shelf name ≡ 0) }
+        ensures calls { IfOk result (λ shelf. (shelf.calls.made ≡ 0) × (shelf.calls.failing ≡ failing)) }
     {
         let counts = Counts::new(alloc, files.len())?;
         let places = vec![in alloc; None; READERS]?;
@@ -51,21 +55,32 @@ impl MemShelf {
 }
 
 impl Shelf for MemShelf {
-    ghost use Rattle.outside_memory.specs.Files.{file_at, told_in};
-    ghost use Rattle.outside_memory.specs.Counts.{count_in};
-    ghost use Rattle.outside_memory.specs.Places.{readers_in};
-    ghost use Rattle.flow_outside.specs.Slots.{living_in};
+    ghost use Rattle.outside_memory.specs.Calls.{HasCalled, NextFails};
+    ghost use Rattle.outside_memory.specs.Shelf.{told_by, readers_of, living_of, faults_of, place_in};
 
-    ghost told = { λ shelf. told_in shelf.files.items };
+    ghost told = { told_by };
 
-    ghost readers = { λ shelf. readers_in shelf.files.items shelf.places.items };
+    ghost readers = { readers_of };
 
-    ghost living = { λ shelf. living_in shelf.places.items };
+    ghost living = { living_of };
 
-    ghost faults_at = { λ shelf name.
-        count_in shelf.counts.files.items shelf.counts.unknown (file_at shelf.files.items name) };
+    ghost faults_at = { faults_of };
 
-    fn open(&mut self, name: &str) -> Result<u32, Failed> {
+    fn open(&mut self, name: &str) -> Result<u32, Failed>
+        requires { living_of self.old < 80 }
+        ensures tells { told_by self.new ≡ told_by self.old }
+        ensures later { (k : List ℕ) → faults_of self.old k ≤ faults_of self.new k }
+        ensures cause { HasCause (faults_of self.old name.now) (faults_of self.new name.now) result }
+        ensures started { IfOk result
+            (λ id. Starts (readers_of self.old) (readers_of self.new) name.now (told_by self.old name.now) id
+                × (living_of self.new ≡ living_of self.old + 1)) }
+        ensures refused { OnErr result
+            ((readers_of self.new ≡ readers_of self.old) × (living_of self.new ≡ living_of self.old)) }
+        ensures called { HasCalled self.old.calls self.new.calls }
+        ensures fails { IsErr result ↔ (NextFails self.old.calls ⊎ (place_in self.old name.now ≡ None)) }
+        ensures apart { (other : List ℕ) → place_in self.old other ≢ place_in self.old name.now
+            → faults_of self.new other ≡ faults_of self.old other }
+    {
         let fails = self.calls.next_fails();
         let place = place_of(&self.files, name);
         match place {
@@ -77,7 +92,29 @@ impl Shelf for MemShelf {
         }
     }
 
-    fn read(&mut self, id: u32, into: &mut [u8]) -> Result<usize, Failed> {
+    fn read(&mut self, id: u32, into: &mut [u8]) -> Result<usize, Failed>
+        requires lives { Lives (readers_of self.old) id }
+        requires room { 0 < length into.old }
+        ensures tells { told_by self.new ≡ told_by self.old }
+        ensures later { (k : List ℕ) → faults_of self.old k ≤ faults_of self.new k }
+        ensures cause { let name = name_of (readers_of self.old id) in
+            HasCause (faults_of self.old name) (faults_of self.new name) result }
+        ensures others { OthersStand (readers_of self.old) (readers_of self.new) id }
+        ensures within { IfOk result (λ count. count ≤ length into.old) }
+        ensures given { IfOk result
+            (λ count. IfTold (left_of (readers_of self.old id)) (λ rest. GivesNext rest into.new count)) }
+        ensures goes_on { IfOk result
+            (λ count. GoesOn (readers_of self.old id) (readers_of self.new id) (living_of self.old) (living_of self.new) count) }
+        ensures refused { OnErr result (LosesPlace (readers_of self.old id) (readers_of self.new id)
+            × (living_of self.new ≡ living_of self.old)) }
+        ensures called { HasCalled self.old.calls self.new.calls }
+        ensures fails { IsErr result ↔ NextFails self.old.calls }
+        ensures most { IfOk result (λ count. IfTold (left_of (readers_of self.old id))
+            (λ rest. count ≡ min (length rest) (length into.old))) }
+        ensures apart { (other : List ℕ)
+            → place_in self.old other ≢ place_in self.old (name_of (readers_of self.old id))
+            → faults_of self.new other ≡ faults_of self.old other }
+    {
         let place = place_of_reader(&self.places, id);
         if self.calls.next_fails() {
             let file = place_of(&self.files, name_at(&self.files, place.file));

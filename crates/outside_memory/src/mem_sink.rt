@@ -1,6 +1,7 @@
-ghost use Rattle.std.specs.Prelude.{◌≡◌, [], Some};
+ghost use Rattle.std.specs.Prelude.{◌≡◌, ◌+◌, ◌<◌, ◌≤◌, ◌++◌, [], Some, IfOk, OnErr, length, take, min};
+ghost use Rattle.flow_outside.specs.Causes.{HasCause};
 
-use flow_outside::failure::Failed;
+use flow_outside::failure::{Failed, count_fault};
 use flow_outside::sink::Sink;
 use std::alloc::Global;
 
@@ -21,6 +22,7 @@ impl MemSink {
     pub fn new(alloc: Global, room: u64) -> MemSink
         ensures tells { ⟦<MemSink as Sink>⟧.told result ≡ Some [] }
         ensures no_fault { ⟦<MemSink as Sink>⟧.fault_count result ≡ 0 }
+        ensures room { result.room ≡ room }
     {
         MemSink {
             text: Vec::new(alloc),
@@ -42,12 +44,20 @@ impl Sink for MemSink {
 
     ghost fault_count = { λ sink. sink.faults };
 
-    fn write(&mut self, bytes: &[u8]) -> Result<usize, Failed> {
+    fn write(&mut self, bytes: &[u8]) -> Result<usize, Failed>
+        ensures cause { HasCause self.old.faults self.new.faults result }
+        ensures most { IfOk result (λ count. count ≡ min self.old.room (length bytes.now)) }
+        ensures some { IfOk result (λ count. 0 < length bytes.now → 0 < count) }
+        ensures appended { IfOk result
+            (λ count. self.new.text.items ≡ self.old.text.items ++ take count bytes.now) }
+        ensures room { IfOk result (λ count. self.new.room + count ≡ self.old.room) }
+        ensures refused { OnErr result
+            ((self.new.text.items ≡ self.old.text.items) × (self.new.room ≡ self.old.room)) }
+    {
         let count = self.room.min(bytes.len() as u64) as usize;
         let full = count == 0 && !bytes.is_empty();
         if full || self.text.extend_from_slice(&bytes[..count]).is_err() {
-            self.faults = self.faults.saturating_add(1);
-            return Err(Failed);
+            return Err(count_fault(&mut self.faults));
         }
         self.room -= count as u64;
         Ok(count)

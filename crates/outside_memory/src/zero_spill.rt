@@ -1,7 +1,7 @@
 ghost use Rattle.std.specs.Prelude.{◌≡◌, ◌+◌, ◌^◌, ◌<◌, ◌≤◌, IsOk, OnOk, OnErr, All, None};
 ghost use Rattle.flow_outside.specs.Causes.{HasCause};
 
-use flow_outside::failure::Failed;
+use flow_outside::failure::{Failed, count_fault};
 use flow_outside::spill::Spill;
 
 /// How many blocks a disk gives in its life.
@@ -45,8 +45,7 @@ impl Spill for ZeroSpill {
             self.given += 1;
             return Ok(self.given);
         }
-        self.faults = self.faults.saturating_add(1);
-        Err(Failed)
+        Err(count_fault(&mut self.faults))
     }
 
     fn put(&mut self, _block: u64, _page: &[u8]) -> Result<(), Failed>
