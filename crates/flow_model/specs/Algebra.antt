@@ -1,4 +1,4 @@
-use Rattle.std.specs.Prelude.{ℕ, Bool, true, false, List, [], ◌∷◌, ◌++◌, ◌==◌, if◌then◌else◌, map, filter, fold}
+use Rattle.std.specs.Prelude.{ℕ, Bool, true, false, List, [], ◌∷◌, ◌++◌, ◌==◌, if◌then◌else◌, map, filter, fold, find, Option}
 use Rattle.flow_types.specs.Values.{flag_of}
 use Rattle.flow_types.specs.Expressions.{val}
 use Rattle.flow_types.specs.declared.expr.Expr.{Expr}
@@ -56,3 +56,12 @@ nodes_of home nodes = filter (λ (node : Node). node.home == home) nodes
 -- the rows of a plan's result
 abbrev pub eval : Plan → List Tuples → Tuples
 eval plan inputs = rows_at (fold (outer_step (given (source_numbers plan.nodes) inputs)) [] (nodes_of 0 plan.nodes)) plan.result
+
+-- the first source of a plan
+abbrev pub first_source : Plan → Option Node
+first_source plan = find (λ (node : Node). is_source node.op) plan.nodes
+
+-- the byte between a source's fields; a comma for another op
+abbrev pub delimiter_of : Op → ℕ
+delimiter_of (op.Source fields delimiter) = delimiter
+delimiter_of _ = 44

@@ -2,7 +2,7 @@ ghost use Rattle.std.specs.Prelude.{◌≡◌, List, [], ◌∷◌, ◌++◌, If
 ghost use Rattle.flow_types.specs.declared.value.Value.TheVariants as value;
 ghost use Rattle.flow_types.specs.Values.{flag_of};
 ghost use Rattle.flow_types.specs.Expressions.{val};
-ghost use Rattle.flow_model.specs.Algebra.{rows_at, eval, is_source, source_numbers, given, filter_rows, node_rows};
+ghost use Rattle.flow_model.specs.Algebra.{rows_at, eval, source_numbers, given, filter_rows, node_rows};
 ghost use Rattle.flow_model.specs.Built.{is_operand, is_comparison, holds, is_built_test, is_built_op, IsBuilt};
 
 use crate::op::Op;
@@ -67,7 +67,7 @@ fn input_at<'a>(nodes: &[Node], inputs: &'a [Rows], number: u32) -> &'a [Row]
 {
     let mut place = 0;
     for node in nodes {
-        if is_source(&node.op) {
+        if node.op.is_source() {
             if place >= inputs.len() {
                 return &[];
             }
@@ -78,12 +78,6 @@ fn input_at<'a>(nodes: &[Node], inputs: &'a [Rows], number: u32) -> &'a [Row]
         }
     }
     &[]
-}
-
-fn is_source(op: &Op) -> bool
-    ensures { result ≡ is_source op.now }
-{
-    matches!(op, Op::Source { .. })
 }
 
 /// The rows under a number; none where nothing is.

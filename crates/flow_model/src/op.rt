@@ -1,3 +1,6 @@
+ghost use Rattle.std.specs.Prelude.{◌≡◌};
+ghost use Rattle.flow_model.specs.Algebra.{is_source, delimiter_of};
+
 use flow_types::agg::Agg;
 use flow_types::expr::Expr;
 use flow_types::field_type::FieldType;
@@ -131,4 +134,22 @@ pub enum Op {
         key: KeyList,
         columns: ExprList,
     },
+}
+
+impl Op {
+    pub fn is_source(&self) -> bool
+        ensures { result ≡ is_source self.now }
+    {
+        matches!(self, Op::Source { .. })
+    }
+
+    /// The byte between a source's fields; a comma for another op.
+    pub fn delimiter(&self) -> u8
+        ensures { result ≡ delimiter_of self.now }
+    {
+        match self {
+            Op::Source { delimiter, .. } => *delimiter,
+            _ => b',',
+        }
+    }
 }

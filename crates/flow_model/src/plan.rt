@@ -1,3 +1,7 @@
+ghost use Rattle.std.specs.Prelude.{◌≡◌};
+ghost use Rattle.std.specs.Option.{option_copied};
+ghost use Rattle.flow_model.specs.Algebra.{first_source};
+
 use crate::op::Op;
 use flow_types::name::Name;
 use flow_types::schema::Schema;
@@ -31,4 +35,16 @@ pub struct Plan {
     pub nodes: NodeList,
     /// The number of the node whose rows are the plan's result.
     pub result: u32,
+}
+
+impl Plan {
+    /// The first source, where the plan has one.
+    pub fn first_source(&self) -> Option<&Node>
+        ensures { option_copied result ≡ first_source self.now }
+    {
+        self.nodes
+            .as_slice()
+            .iter()
+            .find(|node| node.op.is_source())
+    }
 }

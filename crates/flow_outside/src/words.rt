@@ -38,8 +38,9 @@ impl Words {
         ensures pushed { OnOk result (self.new ≡ self.old ++ word.now ∷ []) }
         ensures refused { OnErr result (self.new ≡ self.old) }
     {
-        let owned = String::from_str(self.alloc, word).map_err(|_| Memory)?;
-        self.strings.push(owned).map_err(|_| Memory)
+        let owned = String::from_str(self.alloc, word)?;
+        self.strings.push(owned)?;
+        Ok(())
     }
 
     /// How many words there are.

@@ -1,0 +1,19 @@
+//! The outside in memory: files, a sink, a disk that keeps nothing, and an open gate. They serve
+//! tests and callers that have no files. It stands on `flow_outside`.
+//!
+//! Its one promise: the files and the sink tell their contents, and a call fails only where it was
+//! told to, where a name is unknown, or where room or memory is wanting.
+#![tactic(auto)]
+
+mod calls;
+mod counts;
+pub mod file_name;
+mod files;
+pub mod mem_shelf;
+pub mod mem_sink;
+pub mod no_gate;
+mod places;
+pub mod zero_spill;
+
+#[cfg(test)]
+mod tests;
