@@ -1,6 +1,7 @@
-ghost use Rattle.std.specs.Prelude.{◌≡◌, IfOk, [], ◌∷◌, option_map, option_and_then};
+ghost use Rattle.std.specs.Prelude.{◌≡◌, ◌<◌, IfOk, IsSomeAnd, [], ◌∷◌, option_map, option_and_then};
 ghost use Rattle.serde_json.specs.View.{view};
 ghost use Rattle.serde_json.specs.Find.{at};
+ghost use Rattle.flow_model.specs.Algebra.{first_source};
 ghost use Rattle.flow_model.specs.Built.{IsBuilt};
 ghost use Rattle.flow_model.specs.declared.plan.Plan.{Plan};
 ghost use Rattle.first_plan.specs.Json.{seen, is_length, items_in};
@@ -43,6 +44,7 @@ pub enum FirstPlanFault {
 pub fn first_plan(alloc: Global, bytes: &[u8]) -> Result<Plan, FirstPlanFault>
     ensures ok { IfOk result (λ plan. IsFirstPlan bytes.now plan) }
     ensures built { IfOk result IsBuilt }
+    ensures source { IfOk result (λ plan. IsSomeAnd (first_source plan) (λ source. 0 < source.number)) }
     ensures refused { result ≡ Err FirstPlanFault.OtherForm → (plan : Plan) → IsFirstPlan bytes.now plan → ⊥ }
 {
     let value = match Value::from_slice(alloc, bytes) {

@@ -1,0 +1,186 @@
+ghost use Rattle.std.specs.Prelude.{◌≡◌, [], map, OnOk, OnErr};
+ghost use Rattle.std.specs.List.{concat};
+ghost use Rattle.flow_outside.specs.Causes.{HasCause};
+ghost use Rattle.flow_outside.specs.Told.{Appends, AppendsProperPrefix};
+ghost use Rattle.flink_job.specs.Lines.{line_of, read_text, input_line, code_text, kind_text};
+
+use crate::fault::Fault;
+use delim_io::input_kind::InputKind;
+use flow_model::plan_code::PlanCode;
+use flow_outside::failure::Failed;
+use flow_outside::sink::Sink;
+use flow_outside::write_all::write_all;
+use itoa::Buffer;
+
+const USAGE: &[u8] =
+    b"usage: flink_run check PLAN | need PLAN WORKERS | explain PLAN WORKERS SEGMENTS | run PLAN WORKERS SEGMENTS NAME=PATH... | drill NUMBER ROWS WORKERS SEGMENTS\n";
+
+/// Writes the line of a fault. The name is that of the source that the fault speaks of. It takes no
+/// memory.
+pub fn write_line<E: Sink>(err: &mut E, name: &str, fault: &Fault) -> Result<(), Failed>
+    ensures cause { HasCause (E.fault_count err.old) (E.fault_count err.new) result }
+    ensures written { OnOk result (Appends (E.told err.old) (E.told err.new) (line_of name.now fault.now)) }
+    ensures broken { OnErr result
+        (AppendsProperPrefix (E.told err.old) (E.told err.new) (line_of name.now fault.now)) }
+{
+    match fault {
+        Fault::Usage => write_all(err, USAGE),
+        Fault::PlanRefused { node, code } => write_plan_line(err, *node, *code),
+        Fault::InputRefused {
+            source: _,
+            line,
+            field,
+            kind,
+        } => write_input_line(err, name, *line, *field, *kind),
+        Fault::ReadFault { source } => write_read_line(err, name, *source),
+        Fault::WriteFault => write_all(err, b"write failed\n"),
+        Fault::Memory => write_all(err, b"out of memory\n"),
+        Fault::Unbound { name } => write_parts(
+            err,
+            &[b"input not bound: ", name.as_str().as_bytes(), b"\n"],
+        ),
+    }
+}
+
+/// Writes the line of a file that couldn't be read.
+fn write_read_line<E: Sink>(err: &mut E, name: &str, source: u32) -> Result<(), Failed>
+    ensures cause { HasCause (E.fault_count err.old) (E.fault_count err.new) result }
+    ensures written { OnOk result (Appends (E.told err.old) (E.told err.new) (read_text name.now source)) }
+    ensures broken { OnErr result
+        (AppendsProperPrefix (E.told err.old) (E.told err.new) (read_text name.now source)) }
+{
+    if source == 0 {
+        write_all(err, b"read failed: plan file\n")
+    } else {
+        write_parts(err, &[b"read failed: input ", name.as_bytes(), b"\n"])
+    }
+}
+
+/// Writes the line of a plan that is refused.
+fn write_plan_line<E: Sink>(err: &mut E, node: u32, code: PlanCode) -> Result<(), Failed>
+    ensures cause { HasCause (E.fault_count err.old) (E.fault_count err.new) result }
+    ensures written { OnOk result
+        (Appends (E.told err.old) (E.told err.new) (line_of [] (Fault.PlanRefused node code))) }
+    ensures broken { OnErr result
+        (AppendsProperPrefix (E.told err.old) (E.told err.new) (line_of [] (Fault.PlanRefused node code))) }
+{
+    let mut buffer = Buffer::new();
+    let node = buffer.format(node).as_bytes();
+    let parts: [&[u8]; 5] = [
+        b"plan refused: node ",
+        node,
+        b": ",
+        code_text(code).as_bytes(),
+        b"\n",
+    ];
+    write_parts(err, &parts)
+}
+
+/// Writes the line of an input that is refused.
+fn write_input_line<E: Sink>(
+    err: &mut E,
+    name: &str,
+    line: u64,
+    field: u32,
+    kind: InputKind,
+) -> Result<(), Failed>
+    ensures cause { HasCause (E.fault_count err.old) (E.fault_count err.new) result }
+    ensures written { OnOk result
+        (Appends (E.told err.old) (E.told err.new) (line_of name.now (Fault.InputRefused 0 line field kind))) }
+    ensures broken { OnErr result
+        (AppendsProperPrefix (E.told err.old) (E.told err.new) (line_of name.now (Fault.InputRefused 0 line field kind))) }
+{
+    let mut line_buffer = Buffer::new();
+    let mut field_buffer = Buffer::new();
+    let line = line_buffer.format(line).as_bytes();
+    let field = field_buffer.format(field).as_bytes();
+    write_input_parts(
+        err,
+        name.as_bytes(),
+        line,
+        field,
+        kind_text(kind).as_bytes(),
+    )
+}
+
+/// Writes the line of an input that is refused, of its parts.
+fn write_input_parts<'a, E: Sink>(
+    err: &mut E,
+    name: &'a [u8],
+    line: &'a [u8],
+    field: &'a [u8],
+    kind: &'a [u8],
+) -> Result<(), Failed>
+    ensures cause { HasCause (E.fault_count err.old) (E.fault_count err.new) result }
+    ensures written { OnOk result
+        (Appends (E.told err.old) (E.told err.new) (input_line name.now line.now field.now kind.now)) }
+    ensures broken { OnErr result
+        (AppendsProperPrefix (E.told err.old) (E.told err.new) (input_line name.now line.now field.now kind.now)) }
+{
+    let parts: [&'a [u8]; 9] = [
+        b"input refused: ",
+        name,
+        b" line ",
+        line,
+        b" field ",
+        field,
+        b": ",
+        kind,
+        b"\n",
+    ];
+    write_parts(err, &parts)
+}
+
+/// Writes the parts, one after the other.
+fn write_parts<E: Sink>(err: &mut E, parts: &[&[u8]]) -> Result<(), Failed>
+    ensures cause { HasCause (E.fault_count err.old) (E.fault_count err.new) result }
+    ensures written { OnOk result
+        (Appends (E.told err.old) (E.told err.new) (concat (map (λ p. p.now) parts.now))) }
+    ensures broken { OnErr result
+        (AppendsProperPrefix (E.told err.old) (E.told err.new) (concat (map (λ p. p.now) parts.now))) }
+{
+    for part in parts {
+        write_all(err, *part)?;
+    }
+    Ok(())
+}
+
+fn code_text(code: PlanCode) -> &'static str
+    ensures { result.now ≡ code_text code }
+{
+    match code {
+        PlanCode::TooBig => "TooBig",
+        PlanCode::BadJson => "BadJson",
+        PlanCode::BadPlan => "BadPlan",
+        PlanCode::TooMany => "TooMany",
+        PlanCode::BadNode => "BadNode",
+        PlanCode::BadName => "BadName",
+        PlanCode::BadExpr => "BadExpr",
+        PlanCode::Duplicate => "Duplicate",
+        PlanCode::Misplaced => "Misplaced",
+        PlanCode::UnknownName => "UnknownName",
+        PlanCode::BadField => "BadField",
+        PlanCode::BadTypes => "BadTypes",
+        PlanCode::BadWidth => "BadWidth",
+        PlanCode::NoFit => "NoFit",
+        PlanCode::BadResult => "BadResult",
+        PlanCode::NotBuilt => "NotBuilt",
+    }
+}
+
+fn kind_text(kind: InputKind) -> &'static str
+    ensures { result.now ≡ kind_text kind }
+{
+    match kind {
+        InputKind::OddQuotes => "OddQuotes",
+        InputKind::Split => "Split",
+        InputKind::FieldCount => "FieldCount",
+        InputKind::BadLong => "BadLong",
+        InputKind::BadBool => "BadBool",
+        InputKind::BadText => "BadText",
+        InputKind::TooLong => "TooLong",
+        InputKind::LineTooLong => "LineTooLong",
+        InputKind::Endless => "Endless",
+        InputKind::NotBuilt => "NotBuilt",
+    }
+}
