@@ -96,3 +96,19 @@ IsPartOf-IsLedger total size pages others ledger = record {
     | inr past ↦ omega (arith, ledger.none id past, sum_by-cons (copies id) pages others)
   ];
 }
+
+-- pages that weigh what others weigh may go back where those may
+pub MayReturn-weigh : (pool : Stock) (ps qs : List Page) → ((h : ℕ → ℕ → ℕ) → weigh h qs ≡ weigh h ps) → MayReturn pool ps → MayReturn pool qs
+MayReturn-weigh pool ps qs same may = record {
+  sized = omega (arith, same (λ _ n. cond (not (n == pool.size)) 1 0), may.sized);
+  known = λ id past. omega (arith, same (λ i _. cond (i == id) 1 0), may.known id past);
+  once = λ id. omega (arith, same (λ i _. cond (i == id) 1 0), may.once id);
+}
+
+-- what was taken out of a pool's free segments may go back to them
+pub MayReturn-IsPartOf : (total size : ℕ) (free rest taken : List Page) → ((h : ℕ → ℕ → ℕ) → weigh h rest + weigh h taken ≡ weigh h free) → IsPartOf total size free → MayReturn (record { total = total; size = size; free = rest }) taken
+MayReturn-IsPartOf total size free rest taken weighs part = record {
+  sized = omega (arith, weighs (λ _ n. cond (not (n == size)) 1 0), part.sized);
+  known = λ id past. omega (arith, weighs (λ i _. cond (i == id) 1 0), part.known id past);
+  once = λ id. omega (arith, weighs (λ i _. cond (i == id) 1 0), part.once id);
+}

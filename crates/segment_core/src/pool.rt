@@ -1,5 +1,5 @@
 ghost use Rattle.std.specs.Prelude.{◌≡◌, ℕ, ◌+◌, ◌<◌, ◌≤◌, ◌⊎◌, ◌↔◌, true, false, [], ◌∷◌, ◌++◌, length, reverse, vec_len, vec_capacity, IfOk, OnOk, OnErr, IsErrOf};
-ghost use Rattle.segment_core.specs.Segments.{is_segment_size, weigh, misfits, blank_pages};
+ghost use Rattle.segment_core.specs.Segments.{is_segment_size, weigh, blank_pages};
 ghost use Rattle.segment_core.specs.Ledger.{IsLedger, KeepsLedger, MayReturn};
 
 use super::{LARGEST_SIZE, LeaseFault, PoolFault, Purse, SMALLEST_SIZE, Segment};
@@ -38,7 +38,7 @@ impl Pool {
         ensures bad_size { IsErrOf result PoolFault.BadSize ↔ (is_segment_size size ≡ false) }
         ensures bad_count { IsErrOf result PoolFault.BadCount ↔ ((is_segment_size size ≡ true) × ((count ≡ 0) ⊎ (MOST_SEGMENTS < count))) }
         ensures pool { IfOk result (λ p. p ≡ record { total = count; size = size; free = blank_pages count size }) }
-        ensures ledger { IfOk result (λ p. IsLedger count size (p.free ∷ [])) }
+        ensures ledger { IfOk result (λ p. IsLedger p.total p.size (p.free ∷ [])) }
     {
         if !is_size(size) {
             return Err(PoolFault::BadSize);
@@ -70,8 +70,9 @@ impl Pool {
         ensures room { IfOk result (λ p. p.room ≡ n) }
         ensures count { IfOk result (λ p. length p.pages ≡ n) }
         ensures moved { IfOk result (λ p. self.old.free ≡ self.new.free ++ reverse p.pages) }
-        ensures sized { IfOk result (λ p. misfits self.old.size p.pages ≡ 0) }
-        ensures same { self.new ≡ record self.old { free = self.new.free } }
+        ensures leased { IfOk result (λ p. MayReturn self.new p.pages) }
+        ensures total { self.new.total ≡ self.old.total }
+        ensures size { self.new.size ≡ self.old.size }
         ensures err { OnErr result (self.new ≡ self.old) }
         ensures segments { IfOk result (λ p. (h : ℕ → ℕ → ℕ) → weigh h self.new.free + weigh h p.pages ≡ weigh h self.old.free) }
         ensures ledger { IfOk result (λ p. KeepsLedger (self.old.free ∷ []) (self.new.free ∷ p.pages ∷ [])) }
@@ -91,7 +92,9 @@ impl Pool {
     /// Takes a purse's segments back. It takes no memory.
     pub fn restore(&mut self, p: Purse)
         requires { MayReturn self.old p.pages }
-        ensures pool { self.new ≡ record self.old { free = self.old.free ++ p.pages } }
+        ensures free { self.new.free ≡ self.old.free ++ p.pages }
+        ensures total { self.new.total ≡ self.old.total }
+        ensures size { self.new.size ≡ self.old.size }
         ensures segments { (h : ℕ → ℕ → ℕ) → weigh h self.new.free ≡ weigh h self.old.free + weigh h p.pages }
         ensures ledger { KeepsLedger (self.old.free ∷ p.pages ∷ []) (self.new.free ∷ []) }
     {
@@ -104,6 +107,7 @@ impl Pool {
     pub fn free(&self) -> u32
         ensures count { result ≡ length self.now.free }
         ensures fits { result ≤ self.now.total }
+        ensures home { IsLedger self.now.total self.now.size (self.now.free ∷ []) → result ≡ self.now.total }
     {
         let _total = self.total;
         self.free.len() as u32

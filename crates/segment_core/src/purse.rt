@@ -39,6 +39,7 @@ impl Purse {
     /// Takes the segment that was put last: `None` exactly where the purse is empty.
     pub fn take(&mut self) -> Option<Segment>
         ensures some { IsSome result ↔ (0 < length self.old.pages) }
+        ensures fits { length self.old.pages ≤ self.old.room }
         ensures last { self.old.pages ≡ self.new.pages ++ option_to_list result }
         ensures room { self.new.room ≡ self.old.room }
         ensures segments { (h : ℕ → ℕ → ℕ) → weigh h self.new.pages + weigh h (option_to_list result) ≡ weigh h self.old.pages }
@@ -69,8 +70,10 @@ impl Purse {
 
     /// The most segments that it may hold.
     pub fn room(&self) -> u32
-        ensures { result ≡ self.now.room }
+        ensures room { result ≡ self.now.room }
+        ensures fits { length self.now.pages ≤ result }
     {
+        let _len = self.items.len();
         self.room
     }
 

@@ -19,12 +19,13 @@ pub struct Segment {
 impl Model for Segment {
     ghost use Rattle.std.specs.Prelude.{◌≤◌, vec_len};
     ghost use Rattle.segment_core.specs.Segments.{Page};
+    ghost use Rattle.segment_core.specs.declared.segment.TheConstants.{SMALLEST_SIZE, LARGEST_SIZE};
 
     ghost Value = { Page };
 
     ghost view = { λ s. record { id = s.id; bytes = s.bytes.items } };
 
-    ghost invariant = { λ s. (4096 ≤ vec_len s.bytes) × (vec_len s.bytes ≤ 32768) };
+    ghost invariant = { λ s. (SMALLEST_SIZE ≤ vec_len s.bytes) × (vec_len s.bytes ≤ LARGEST_SIZE) };
 }
 
 impl Segment {

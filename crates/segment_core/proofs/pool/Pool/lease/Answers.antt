@@ -3,15 +3,12 @@ use Rattle.std.proofs.Common.{◌≡◌, ℕ, ◌+◌, ◌++◌, List, [], rever
 use Rattle.segment_core.specs.Segments.{Page, Stock, Held, weigh, misfits}
 use Rattle.segment_core.specs.Ledger.{IsPartOf}
 use Rattle.segment_core.proofs.Weighing.{weigh-moved}
-use Rattle.segment_core.proofs.Holders.{IsPartOf-weigh, KeepsLedger-weigh_all}
+use Rattle.segment_core.proofs.Holders.{IsPartOf-weigh, MayReturn-IsPartOf, KeepsLedger-weigh_all}
 use Rattle.segment_core.proofs.pool.Pool.lease.Goals as goal
 
 leased : (total size room : ℕ) (free none rest moved : List Page) (old : Stock) (purse : Held) → record { total = total; size = size; free = free } ≡ old → none ≡ [] → rest ++ reverse moved ≡ free ++ reverse none → purse ≡ record { room = room; pages = moved } → (h : ℕ → ℕ → ℕ) → weigh h rest + weigh h purse.pages ≡ weigh h old.free
 leased total size room free none rest moved old purse pool empty zip held h =
     omega (arith, weigh-moved h free none rest moved zip, ap (weigh h) empty, ap (λ (v : Held). weigh h v.pages) held, ap (λ (v : Stock). weigh h v.free) pool)
-
-owned : (total size : ℕ) (free : List Page) (old : Stock) → record { total = total; size = size; free = free } ≡ old → IsPartOf total size free → IsPartOf old.total old.size old.free
-owned total size free old pool part = let P : Stock → _ = λ v. IsPartOf v.total v.size v.free in subst P pool part
 
 pub returns-clause-segments : goal.returns-clause-segments
 returns-clause-segments c =
@@ -22,11 +19,10 @@ returns-clause-ledger c =
     let weighs : (h : ℕ → ℕ → ℕ) → weigh h c.move_last.new.from.items + weigh h c.of_items.result.pages ≡ weigh h c.args.self.now.free = leased _ _ _ _ _ _ _ _ _ c.self.view_is c.in-Ok.ensures.items c.move_last.ensures.moved c.of_items.ensures.purse in
     KeepsLedger-weigh_all _ _ (λ h. omega (arith, weighs h))
 
-pub returns-clause-sized : goal.returns-clause-sized
-returns-clause-sized c =
+pub returns-clause-leased : goal.returns-clause-leased
+returns-clause-leased c =
     let weighs : (h : ℕ → ℕ → ℕ) → weigh h c.move_last.new.from.items + weigh h c.of_items.result.pages ≡ weigh h c.args.self.now.free = leased _ _ _ _ _ _ _ _ _ c.self.view_is c.in-Ok.ensures.items c.move_last.ensures.moved c.of_items.ensures.purse in
-    let part = IsPartOf-weigh _ _ c.args.self.now.free c.of_items.result.pages (λ h. omega (arith, weighs h)) (owned _ _ _ _ c.self.view_is c.self.invariant.own) in
-    part.sized
+    MayReturn-IsPartOf c.self.inside.total c.self.inside.size c.self.inside.free.items _ _ (λ h. omega (arith, weighs h, ap (λ (v : Stock). weigh h v.free) c.self.view_is)) c.self.invariant.own
 
 pub invariant_of-self : goal.invariant_of-self
 invariant_of-self c =
