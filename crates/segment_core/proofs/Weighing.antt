@@ -1,6 +1,6 @@
 -- Lemmas on what pages weigh, for this crate and for all that hold segments above it.
-use Rattle.std.proofs.Common.{◌≡◌, ℕ, ◌+◌, ◌<◌, ◌≤◌, Bool, true, false, cond, not, ◌==◌, List, [], ◌∷◌, ◌++◌, length, reverse, replicate, take, drop, map, zero, suc, ltb, refl, ap, arith}
-use Rattle.std.specs.Prelude.{Option, Some, None, option_to_list, IsPermutation, All, sum_by}
+use Rattle.std.proofs.Common.{◌≡◌, ℕ, ◌+◌, ◌<◌, ◌≤◌, cond, not, ◌==◌, List, [], ◌∷◌, ◌++◌, length, reverse, replicate, map, zero, suc, ltb, refl, ap, arith}
+use Rattle.std.specs.Prelude.{IsPermutation}
 use Rattle.std.proofs.lemmas.List.Sums.{sum_by-cons, sum_by-append, sum_by_push}
 use Rattle.std.proofs.lemmas.List.Sorted.{sum_by-IsPermutation, IsPermutation-reverse}
 use Rattle.std.proofs.lemmas.Bool.Decides.{nat_tests}

@@ -1,4 +1,5 @@
--- The ledger: of n segments with the ids 0 to n - 1, each stands exactly once among all holders.
+-- The ledger: of n segments with the ids 0 to n - 1 each stands exactly once among all holders. The
+-- rule is this project's own.
 use Rattle.std.specs.Prelude.{◌≡◌, ℕ, ◌+◌, ◌<◌, ◌≤◌, true, List, ◌++◌, sum_by}
 use Rattle.segment_core.specs.Segments.{Page, Stock, is_segment_size, weigh, copies, misfits}
 use Rattle.segment_core.specs.declared.pool.TheConstants.{MOST_SEGMENTS}
@@ -7,7 +8,8 @@ use Rattle.segment_core.specs.declared.pool.TheConstants.{MOST_SEGMENTS}
 abbrev pub weigh_all : (ℕ → ℕ → ℕ) → List (List Page) → ℕ
 weigh_all h holders = sum_by (weigh h) holders
 
--- Of `total` segments of `size` bytes, each stands exactly once among the holders, and nothing else does.
+-- Of `total` segments of `size` bytes each stands exactly once among the holders: every id below
+-- `total` once, no other id, and no other size.
 pub record IsLedger (total size : ℕ) (holders : List (List Page)) : Type 0 where
   pub once : (id : ℕ) → id < total → sum_by (copies id) holders ≡ 1
   pub none : (id : ℕ) → total ≤ id → sum_by (copies id) holders ≡ 0
@@ -16,7 +18,8 @@ pub record IsLedger (total size : ℕ) (holders : List (List Page)) : Type 0 whe
 -- Holders changed from `before` to `after`, and every ledger in which they stand still holds, whoever
 -- else holds segments.
 pub record KeepsLedger (before after : List (List Page)) : Type 0 where
-  pub holds : (total size : ℕ) (others : List (List Page)) → IsLedger total size (before ++ others) → IsLedger total size (after ++ others)
+  pub holds : (total size : ℕ) (others : List (List Page)) →
+      IsLedger total size (before ++ others) → IsLedger total size (after ++ others)
 
 -- Pages are segments of a pool that has `total` of `size` bytes: no two are the same.
 pub record IsPartOf (total size : ℕ) (pages : List Page) : Type 0 where
@@ -34,8 +37,8 @@ pub record IsSound (total size : ℕ) (free : List Page) (len capacity : ℕ) : 
   pub fits : len ≤ total
   pub reserved : total ≤ capacity
 
--- Pages may go back to a pool: each has the pool's size and an id below its total, and none is free or
--- stands twice.
+-- Pages may go back to a pool: each has the pool's size and an id below its total, and none is free
+-- or stands twice.
 pub record MayReturn (pool : Stock) (pages : List Page) : Type 0 where
   pub sized : misfits pool.size pages ≡ 0
   pub known : (id : ℕ) → pool.total ≤ id → copies id pages ≡ 0

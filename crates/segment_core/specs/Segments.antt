@@ -1,5 +1,5 @@
 -- Segments, purses and pools as contracts see them, and what a list of segments weighs.
-use Rattle.std.specs.Prelude.{ℕ, ◌+◌, ◌*◌, Bool, ◌==◌, ◌||◌, not, List, [], ◌∷◌, length, map, replicate, sum_by, count_by}
+use Rattle.std.specs.Prelude.{ℕ, ◌*◌, Bool, ◌==◌, ◌||◌, not, List, length, map, replicate, sum_by, count_by}
 use Rattle.std.specs.List.{range_with_len}
 use Rattle.segment_core.specs.declared.segment.TheConstants.{SMALLEST_SIZE, LARGEST_SIZE}
 
@@ -19,13 +19,14 @@ pub record Stock : Type 0 where
   pub size : ℕ
   pub free : List Page
 
--- A segment's size is the smallest, or twice, four times or eight times the smallest, which is the largest.
+-- A segment's size is the smallest, twice or four times the smallest, or the largest.
 abbrev pub is_segment_size : ℕ → Bool
 is_segment_size n =
     (n == SMALLEST_SIZE) || ((n == 2 * SMALLEST_SIZE) || ((n == 4 * SMALLEST_SIZE) || (n == LARGEST_SIZE)))
 
 -- What pages weigh, where `h` says what one weighs by its id and by its number of bytes. A page's
--- bytes change while it is held; its id and its number of bytes never do.
+-- bytes change while it is held; its id and its number of bytes never do. So each call that takes or
+-- gives segments says: for every weight, what came out weighs what went in.
 abbrev pub weigh : (ℕ → ℕ → ℕ) → List Page → ℕ
 weigh h pages = sum_by (λ p. h p.id (length p.bytes)) pages
 

@@ -1,4 +1,4 @@
-ghost use Rattle.std.specs.Prelude.{◌≡◌, ℕ, ◌+◌, ◌<◌, ◌≤◌, ◌⊎◌, ◌↔◌, true, false, [], ◌∷◌, ◌++◌, length, reverse, vec_len, vec_capacity, IfOk, OnOk, OnErr, IsErrOf};
+ghost use Rattle.std.specs.Prelude.{◌≡◌, ℕ, ◌+◌, ◌<◌, ◌≤◌, ◌⊎◌, ◌↔◌, true, false, [], ◌∷◌, ◌++◌, length, reverse, vec_len, vec_capacity, IsOk, IfOk, OnOk, OnErr, IsErrOf};
 ghost use Rattle.segment_core.specs.Segments.{is_segment_size, weigh, blank_pages};
 ghost use Rattle.segment_core.specs.Ledger.{IsLedger, KeepsLedger, MayReturn};
 
@@ -27,17 +27,22 @@ impl Model for Pool {
 
     ghost view = { λ p. record { total = p.total; size = p.size; free = p.free.items } };
 
-    ghost invariant = { λ p. IsSound p.total p.size p.free.items (vec_len p.free) (vec_capacity p.free) };
+    ghost invariant = { λ p.
+        IsSound p.total p.size p.free.items (vec_len p.free) (vec_capacity p.free) };
 }
 
 impl Pool {
-    /// Makes `count` segments of `size` bytes, with the ids 0 to `count` - 1, all free and zero. A bad
-    /// size is told before a bad count, and both before want of memory, after which all that was made
-    /// is given back. It takes the bytes of the segments and 48 bytes more for each.
+    /// Makes `count` segments of `size` bytes, with the ids 0 to `count` - 1, all free and zero.
+    ///
+    /// `BadSize` exactly where a segment may not have that size, else `BadCount` exactly where `count`
+    /// is 0 or above 65,536. After `Memory` all that was made is given back. It takes the segments'
+    /// bytes and about 48 bytes more for each; after it, only `lease` takes memory.
     pub fn open(alloc: Global, count: u32, size: u32) -> Result<Pool, PoolFault>
         ensures bad_size { IsErrOf result PoolFault.BadSize ↔ (is_segment_size size ≡ false) }
-        ensures bad_count { IsErrOf result PoolFault.BadCount ↔ ((is_segment_size size ≡ true) × ((count ≡ 0) ⊎ (MOST_SEGMENTS < count))) }
-        ensures pool { IfOk result (λ p. p ≡ record { total = count; size = size; free = blank_pages count size }) }
+        ensures bad_count { IsErrOf result PoolFault.BadCount
+            ↔ ((is_segment_size size ≡ true) × ((count ≡ 0) ⊎ (MOST_SEGMENTS < count))) }
+        ensures pool { IfOk result (λ p.
+            p ≡ record { total = count; size = size; free = blank_pages count size }) }
         ensures ledger { IfOk result (λ p. IsLedger p.total p.size (p.free ∷ [])) }
     {
         if !is_size(size) {
@@ -64,18 +69,26 @@ impl Pool {
         }
     }
 
-    /// Takes `n` free segments out into a purse of that room. `Short` is told before want of memory.
+    /// Takes `n` free segments out into a purse of that room, those that were made or restored last.
+    ///
+    /// `Short` exactly where fewer are free, told before `Memory`. It takes 32 bytes for each segment.
     pub fn lease(&mut self, n: u32) -> Result<Purse, LeaseFault>
-        ensures short { (free : ℕ) → IsErrOf result (LeaseFault.Short free) ↔ ((free ≡ length self.old.free) × (free < n)) }
+        ensures short { (free : ℕ) →
+            IsErrOf result (LeaseFault.Short free) ↔ ((free ≡ length self.old.free) × (free < n)) }
+        ensures none { n ≡ 0 → IsOk result }
+        ensures err { OnErr result (self.new ≡ self.old) }
+
         ensures room { IfOk result (λ p. p.room ≡ n) }
         ensures count { IfOk result (λ p. length p.pages ≡ n) }
         ensures moved { IfOk result (λ p. self.old.free ≡ self.new.free ++ reverse p.pages) }
-        ensures leased { IfOk result (λ p. MayReturn self.new p.pages) }
+        ensures may_return { IfOk result (λ p. MayReturn self.new p.pages) }
         ensures total { self.new.total ≡ self.old.total }
         ensures size { self.new.size ≡ self.old.size }
-        ensures err { OnErr result (self.new ≡ self.old) }
-        ensures segments { IfOk result (λ p. (h : ℕ → ℕ → ℕ) → weigh h self.new.free + weigh h p.pages ≡ weigh h self.old.free) }
-        ensures ledger { IfOk result (λ p. KeepsLedger (self.old.free ∷ []) (self.new.free ∷ p.pages ∷ [])) }
+
+        ensures segments { IfOk result (λ p. (h : ℕ → ℕ → ℕ) →
+            weigh h self.new.free + weigh h p.pages ≡ weigh h self.old.free) }
+        ensures ledger { IfOk result (λ p.
+            KeepsLedger (self.old.free ∷ []) (self.new.free ∷ p.pages ∷ [])) }
     {
         let free = self.free();
         if free < n {
@@ -89,13 +102,15 @@ impl Pool {
         Ok(Purse::of_items(items, n))
     }
 
-    /// Takes a purse's segments back. It takes no memory.
+    /// Takes a purse's segments back: those of this pool's size and ids that aren't free. It takes no
+    /// memory.
     pub fn restore(&mut self, p: Purse)
         requires { MayReturn self.old p.pages }
         ensures free { self.new.free ≡ self.old.free ++ p.pages }
         ensures total { self.new.total ≡ self.old.total }
         ensures size { self.new.size ≡ self.old.size }
-        ensures segments { (h : ℕ → ℕ → ℕ) → weigh h self.new.free ≡ weigh h self.old.free + weigh h p.pages }
+        ensures segments { (h : ℕ → ℕ → ℕ) →
+            weigh h self.new.free ≡ weigh h self.old.free + weigh h p.pages }
         ensures ledger { KeepsLedger (self.old.free ∷ p.pages ∷ []) (self.new.free ∷ []) }
     {
         let (mut items, _room) = p.into_items();
@@ -103,11 +118,12 @@ impl Pool {
         items.destroy_empty();
     }
 
-    /// How many segments are free.
+    /// How many segments are free: all of them where the pool alone holds a whole ledger.
     pub fn free(&self) -> u32
         ensures count { result ≡ length self.now.free }
         ensures fits { result ≤ self.now.total }
-        ensures home { IsLedger self.now.total self.now.size (self.now.free ∷ []) → result ≡ self.now.total }
+        ensures home { IsLedger self.now.total self.now.size (self.now.free ∷ [])
+            → result ≡ self.now.total }
     {
         let _total = self.total;
         self.free.len() as u32

@@ -1,4 +1,4 @@
-ghost use Rattle.std.specs.Prelude.{◌≡◌, ℕ, ◌+◌, ◌<◌, ◌≤◌, ◌↔◌, [], ◌∷◌, ◌++◌, length, vec_len, vec_capacity, IsSome, IfOk, IsOkUnless, option_to_list};
+ghost use Rattle.std.specs.Prelude.{◌≡◌, ℕ, ◌+◌, ◌<◌, ◌≤◌, ◌↔◌, [], ◌∷◌, ◌++◌, length, vec_len, vec_capacity, IsSome, IsOk, IfOk, IsOkUnless, option_to_list};
 ghost use Rattle.segment_core.specs.Segments.{weigh};
 ghost use Rattle.segment_core.specs.Ledger.{KeepsLedger};
 
@@ -6,8 +6,8 @@ use super::{PoolFault, Segment};
 use std::alloc::Global;
 use std::marker::Model;
 
-/// Segments on their way: up to `room` of them, of which the last put is the first taken. It may not be
-/// let go: it goes back to its pool, or is taken apart.
+/// Segments on their way: up to `room` of them, of which the last put is the first taken. It may not
+/// be let go: it goes back to its pool, or is taken apart.
 pub struct Purse {
     items: Vec<Segment>,
     room: u32,
@@ -25,10 +25,12 @@ impl Model for Purse {
 }
 
 impl Purse {
-    /// An empty purse for `room` segments. Of the faults it answers `Memory` alone.
+    /// An empty purse for `room` segments. Of the faults it answers `Memory` alone. It takes 32 bytes
+    /// for each segment that it may hold.
     pub fn open(alloc: Global, room: u32) -> Result<Purse, PoolFault>
         ensures ok { IfOk result (λ p. p ≡ record { room = room; pages = [] }) }
         ensures err { IsOkUnless result PoolFault.Memory }
+        ensures no_room { room ≡ 0 → IsOk result }
     {
         match Vec::with_capacity(alloc, room as usize) {
             Ok(items) => Ok(Purse { items, room }),
@@ -36,13 +38,15 @@ impl Purse {
         }
     }
 
-    /// Takes the segment that was put last: `None` exactly where the purse is empty.
+    /// Takes the segment that was put last: `None` exactly where the purse is empty. It takes no
+    /// memory.
     pub fn take(&mut self) -> Option<Segment>
         ensures some { IsSome result ↔ (0 < length self.old.pages) }
         ensures fits { length self.old.pages ≤ self.old.room }
         ensures last { self.old.pages ≡ self.new.pages ++ option_to_list result }
         ensures room { self.new.room ≡ self.old.room }
-        ensures segments { (h : ℕ → ℕ → ℕ) → weigh h self.new.pages + weigh h (option_to_list result) ≡ weigh h self.old.pages }
+        ensures segments { (h : ℕ → ℕ → ℕ) →
+            weigh h self.new.pages + weigh h (option_to_list result) ≡ weigh h self.old.pages }
         ensures ledger { KeepsLedger (self.old.pages ∷ []) (self.new.pages ∷ option_to_list result ∷ []) }
     {
         self.items.pop()
@@ -53,7 +57,8 @@ impl Purse {
         requires { length self.old.pages < self.old.room }
         ensures pages { self.new.pages ≡ self.old.pages ++ s ∷ [] }
         ensures room { self.new.room ≡ self.old.room }
-        ensures segments { (h : ℕ → ℕ → ℕ) → weigh h self.new.pages ≡ weigh h self.old.pages + weigh h (s ∷ []) }
+        ensures segments { (h : ℕ → ℕ → ℕ) →
+            weigh h self.new.pages ≡ weigh h self.old.pages + weigh h (s ∷ []) }
         ensures ledger { KeepsLedger (self.old.pages ∷ (s ∷ []) ∷ []) (self.new.pages ∷ []) }
     {
         self.items.push_reserved(s);

@@ -9,8 +9,8 @@ pub const SMALLEST_SIZE: u32 = 4_096;
 /// The most bytes of a segment.
 pub const LARGEST_SIZE: u32 = 32_768;
 
-/// A block of memory with an id of its own. Only a pool makes one. It isn't copied and may not be let
-/// go: whoever has one has to hand it on.
+/// A block of memory with an id of its own. Only a pool makes one and only a pool ends one. It isn't
+/// copied and may not be let go: whoever has one has to hand it on.
 pub struct Segment {
     id: u32,
     bytes: Vec<u8>,

@@ -1,8 +1,7 @@
 -- The next page is that of the next id.
-use Rattle.std.proofs.Common.{◌≡◌, ◌+◌, replicate, arith}
-use Rattle.std.proofs.lemmas.Grind.{common_steps}
+use Rattle.std.proofs.Common.{◌≡◌, replicate, arith}
 use Rattle.std.proofs.lemmas.List.FromFn.{map-range_with_len_more}
-use Rattle.segment_core.specs.Segments.{blank_page, blank_pages}
+use Rattle.segment_core.specs.Segments.{blank_page}
 use Rattle.segment_core.proofs.pool.fill.Goals as goal
 
 pub loop-id-preserved : goal.loop-id-preserved

@@ -1,7 +1,6 @@
 -- What moved to the purse and what stays free weigh together what was free.
-use Rattle.std.proofs.Common.{◌≡◌, ℕ, ◌+◌, ◌++◌, List, [], reverse, arith, ap, subst}
-use Rattle.segment_core.specs.Segments.{Page, Stock, Held, weigh, misfits}
-use Rattle.segment_core.specs.Ledger.{IsPartOf}
+use Rattle.std.proofs.Common.{◌≡◌, ℕ, ◌+◌, ◌++◌, List, [], reverse, arith, ap}
+use Rattle.segment_core.specs.Segments.{Page, Stock, Held, weigh}
 use Rattle.segment_core.proofs.Weighing.{weigh-moved}
 use Rattle.segment_core.proofs.Holders.{IsPartOf-weigh, MayReturn-IsPartOf, KeepsLedger-weigh_all}
 use Rattle.segment_core.proofs.pool.Pool.lease.Goals as goal
@@ -19,8 +18,8 @@ returns-clause-ledger c =
     let weighs : (h : ℕ → ℕ → ℕ) → weigh h c.move_last.new.from.items + weigh h c.of_items.result.pages ≡ weigh h c.args.self.now.free = leased _ _ _ _ _ _ _ _ _ c.self.view_is c.in-Ok.ensures.items c.move_last.ensures.moved c.of_items.ensures.purse in
     KeepsLedger-weigh_all _ _ (λ h. omega (arith, weighs h))
 
-pub returns-clause-leased : goal.returns-clause-leased
-returns-clause-leased c =
+pub returns-clause-may_return : goal.returns-clause-may_return
+returns-clause-may_return c =
     let weighs : (h : ℕ → ℕ → ℕ) → weigh h c.move_last.new.from.items + weigh h c.of_items.result.pages ≡ weigh h c.args.self.now.free = leased _ _ _ _ _ _ _ _ _ c.self.view_is c.in-Ok.ensures.items c.move_last.ensures.moved c.of_items.ensures.purse in
     MayReturn-IsPartOf c.self.inside.total c.self.inside.size c.self.inside.free.items _ _ (λ h. omega (arith, weighs h, ap (λ (v : Stock). weigh h v.free) c.self.view_is)) c.self.invariant.own
 

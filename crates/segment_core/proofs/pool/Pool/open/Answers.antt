@@ -1,6 +1,5 @@
 -- A new pool holds each of its segments once.
-use Rattle.std.proofs.Common.{◌≡◌, ◌≤◌, [], ◌∷◌, vec_len, vec_capacity, arith}
-use Rattle.segment_core.specs.Segments.{blank_pages}
+use Rattle.std.proofs.Common.{◌≡◌, ◌≤◌, [], vec_len, vec_capacity, arith}
 use Rattle.segment_core.proofs.Holders.{IsLedger-blank_pages, IsPartOf-IsLedger}
 use Rattle.segment_core.proofs.pool.Pool.open.Goals as goal
 

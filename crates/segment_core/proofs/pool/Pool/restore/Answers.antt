@@ -1,5 +1,5 @@
 -- The free segments and the purse's together are segments of the pool, and the list has space for all of these.
-use Rattle.std.proofs.Common.{◌≡◌, ◌+◌, ◌++◌, ◌≤◌, List, arith, ap, sym, subst, length, length-append}
+use Rattle.std.proofs.Common.{◌≡◌, ◌++◌, List, arith, ap, sym, subst, length, length-append}
 use Rattle.std.proofs.lemmas.Grind.{common_steps}
 use Rattle.segment_core.specs.Segments.{Page, Stock}
 use Rattle.segment_core.specs.Ledger.{MayReturn, IsPartOf}
