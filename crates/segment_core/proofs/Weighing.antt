@@ -1,6 +1,7 @@
 -- Lemmas on what pages weigh, for this crate and for all that hold segments above it.
 use Rattle.std.proofs.Common.{◌≡◌, ℕ, ◌+◌, ◌<◌, ◌≤◌, cond, not, ◌==◌, List, [], ◌∷◌, ◌++◌, length, reverse, replicate, map, zero, suc, ltb, refl, ap, arith}
-use Rattle.std.specs.Prelude.{IsPermutation}
+use Rattle.std.specs.Prelude.{Option, Some, None, option_to_list, IsPermutation}
+use Rattle.std.specs.Option.{option_map_or}
 use Rattle.std.proofs.lemmas.List.Sums.{sum_by-cons, sum_by-append, sum_by_push}
 use Rattle.std.proofs.lemmas.List.Sorted.{sum_by-IsPermutation, IsPermutation-reverse}
 use Rattle.std.proofs.lemmas.Bool.Decides.{nat_tests}
@@ -30,9 +31,20 @@ pub weigh-moved : (h : ℕ → ℕ → ℕ) (from to from' to' : List Page) → 
 weigh-moved h from to from' to' moved =
     omega (arith, weigh-append h from (reverse to), weigh-append h from' (reverse to'), weigh-reverse h to, weigh-reverse h to', ap (weigh h) moved)
 
--- a page that was written weighs what it weighed
+pub weigh-one : (h : ℕ → ℕ → ℕ) (p : Page) → weigh h (p ∷ []) ≡ h p.id (length p.bytes)
+weigh-one h p = omega arith
+
+-- what an answer that may be none weighs
+pub weigh-option_to_list : (h : ℕ → ℕ → ℕ) (o : Option Page) → weigh h (option_to_list o) ≡ option_map_or (λ p. h p.id (length p.bytes)) o 0
+weigh-option_to_list h None = refl
+weigh-option_to_list h (Some p) = weigh-one h p
+
+-- a page that was written has as many bytes as it had, and weighs what it weighed
 pub length-with_bytes : (p : Page) (ws : List ℕ) → length (with_bytes p ws).bytes ≡ length p.bytes
 length-with_bytes p ws = grind (arith, common_steps)
+
+pub weigh-with_bytes : (h : ℕ → ℕ → ℕ) (p : Page) (ws : List ℕ) → weigh h (with_bytes p ws ∷ []) ≡ weigh h (p ∷ [])
+weigh-with_bytes h p ws = ap (λ n. 0 + h p.id n) (length-with_bytes p ws)
 
 -- what weighs one a page weighs their number
 pub weigh-ones : (ps : List Page) → weigh (λ _ _. 1) ps ≡ length ps
