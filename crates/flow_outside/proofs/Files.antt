@@ -1,10 +1,10 @@
-use Rattle.std.proofs.Common.{◌≡◌, ◌≢◌, ◌⊎◌, inl, inr, ℕ, ◌+◌, ◌<◌, ◌≤◌, List, [], ◌++◌, length, take, drop, Option, Some, None, option_map, refl, sym, ap, subst, ◌∙◌, append_assoc, append-nil, length-append, arith}
+use Rattle.std.proofs.Common.{◌≡◌, inl, inr, ℕ, ◌+◌, ◌<◌, List, [], ◌++◌, length, take, drop, Option, Some, None, option_map, refl, sym, ap, subst, ◌∙◌, append_assoc, append-nil, length-append, arith}
 use Rattle.std.proofs.lemmas.Bool.Decides.{eqb_tells}
 use Rattle.std.proofs.lemmas.List.{take-append-drop}
 use Rattle.std.proofs.Math.Seq.{take-append_seam}
 use Rattle.flow_outside.specs.Told.{IfTold}
-use Rattle.flow_outside.specs.Readers.{Reading, Readers, Lives, OthersStand, Starts, GivesNext, GoesOn, LosesPlace, name_of, left_of, behind}
-use Rattle.flow_outside.specs.Files.{ReadsAll, LeavesAtMostOne}
+use Rattle.flow_outside.specs.Readers.{Readers, OthersStand, Starts, GivesNext, GoesOn, left_of, behind}
+use Rattle.flow_outside.specs.Files.{LeavesAtMostOne}
 
 -- The bytes that were given and those that are left are the file's.
 abbrev pub Splits : (told left : Option (List ℕ)) → (bytes : List ℕ) → Type 0

@@ -1,5 +1,4 @@
 use Rattle.std.specs.Prelude.{◌≡◌, ◌≢◌, ◌↔◌, ℕ, ◌+◌, ◌<◌, ◌≤◌, List, [], length, take, drop, Option, Some, None, option_map}
-use Rattle.flow_outside.specs.Told.{IfTold}
 
 -- A living reader of a file: the file's name and, where told, the bytes that it has left.
 pub record Reading : Type 0 where

@@ -1,4 +1,4 @@
-use Rattle.std.specs.Prelude.{ℕ, List, Option, Some, None, String, string_bytes}
+use Rattle.std.specs.Prelude.{List, Option, Some, None, String, string_bytes}
 use Rattle.std.specs.List.{slice_index_or}
 use Rattle.std.specs.declared.alloc.Global.{Global}
 use Rattle.flow_outside.specs.Readers.{Reading, Readers}

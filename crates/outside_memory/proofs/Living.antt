@@ -1,4 +1,4 @@
-use Rattle.std.proofs.Common.{◌≡◌, ◌≢◌, ℕ, ◌+◌, ◌<◌, Option, Some, None, List, length, drop, slice_index_or, slice_set, refl, ap, ◌∙◌, sym, arith}
+use Rattle.std.proofs.Common.{◌≡◌, ◌≢◌, ℕ, ◌+◌, ◌<◌, Option, Some, None, List, length, drop, slice_index_or, slice_set, refl, ap, ◌∙◌, sym}
 use Rattle.flow_outside.specs.Readers.{Reading, Starts, LosesPlace}
 use Rattle.flow_outside.specs.Slots.{living_in}
 use Rattle.flow_outside.proofs.Living.{starts as starts_in}

@@ -1,5 +1,4 @@
-use Rattle.std.specs.Prelude.{◌≡◌, ◌≢◌, ℕ, ◌<◌, ◌≤◌, List, length, Option, Some, None, slice_index}
-use Rattle.flow_outside.specs.Causes.{Rose}
+use Rattle.std.specs.Prelude.{ℕ, List, Option, Some, None, slice_index}
 
 -- The count at a file, or that of all unknown names.
 abbrev pub count_in : (counts : List ℕ) (unknown : ℕ) → Option ℕ → ℕ

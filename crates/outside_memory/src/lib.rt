@@ -13,7 +13,6 @@ pub mod mem_shelf;
 pub mod mem_sink;
 pub mod no_gate;
 mod places;
-pub mod zero_spill;
-
 #[cfg(test)]
 mod tests;
+pub mod zero_spill;

@@ -73,7 +73,7 @@ impl Shelf for MemShelf {
         ensures cause { HasCause (faults_of self.old name.now) (faults_of self.new name.now) result }
         ensures started { IfOk result
             (λ id. Starts (readers_of self.old) (readers_of self.new) name.now (told_by self.old name.now) id
-                × (living_of self.new ≡ living_of self.old + 1)) }
+            × (living_of self.new ≡ living_of self.old + 1)) }
         ensures refused { OnErr result
             ((readers_of self.new ≡ readers_of self.old) × (living_of self.new ≡ living_of self.old)) }
         ensures called { HasCalled self.old.calls self.new.calls }

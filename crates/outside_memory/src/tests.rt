@@ -34,7 +34,10 @@ fn reads_the_first_of_two_files(rt: HostRuntime) -> Result<(), Fail> {
 fn refuses_a_file_past_the_limit(rt: HostRuntime) -> Result<(), Fail> {
     let alloc = rt.alloc();
     let mut shelf = MemShelf::new(alloc, two_files(alloc)?, Vec::new(alloc))?;
-    assert_eq!(rt; read_file(&mut shelf, alloc, "a", 3), Err(FileFault::TooLong));
+    assert_eq!(rt;
+        read_file(&mut shelf, alloc, "a", 3),
+        Err(FileFault::TooLong)
+    );
     Ok(())
 }
 

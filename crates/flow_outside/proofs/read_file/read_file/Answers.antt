@@ -1,5 +1,4 @@
-use Rattle.std.proofs.Common.{rules, arith, refl, ap, ◌∙◌, ◌++◌, ◌<◌, take}
-use Rattle.std.proofs.lemmas.Grind.{common_steps}
+use Rattle.std.proofs.Common.{rules, refl, ap, ◌∙◌, ◌++◌, ◌<◌, take}
 use Rattle.flow_outside.proofs.Files.{midway_start, midway_more, midway_whole, midway_ended, midway_left, midway_longer, written_back}
 use Rattle.flow_outside.proofs.read_file.read_file.Goals as goal
 

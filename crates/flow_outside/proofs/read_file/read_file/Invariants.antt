@@ -1,4 +1,4 @@
-use Rattle.std.proofs.Common.{◌≡◌, ℕ, ◌+◌, ◌-◌, ◌<◌, ◌≤◌, List, length, vec_len}
+use Rattle.std.proofs.Common.{◌≡◌, ℕ, ◌+◌, ◌-◌, ◌<◌, ◌≤◌, List, vec_len}
 use Rattle.flow_outside.proofs.Files.{Midway}
 use Rattle.flow_outside.proofs.read_file.read_file.Given as goal
 

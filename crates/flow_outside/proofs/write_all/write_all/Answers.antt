@@ -1,4 +1,4 @@
-use Rattle.std.proofs.Common.{rules, arith}
+use Rattle.std.proofs.Common.{rules}
 use Rattle.flow_outside.proofs.Told.{appends_piece}
 use Rattle.flow_outside.proofs.write_all.write_all.Goals as goal
 

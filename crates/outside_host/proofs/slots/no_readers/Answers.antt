@@ -1,4 +1,4 @@
-use Rattle.std.proofs.Common.{rules, ◌≡◌, ◌∙◌, ap, subst, sym, None, slice_index_or}
+use Rattle.std.proofs.Common.{rules, ◌∙◌, ap, None, slice_index_or}
 use Rattle.flow_outside.specs.Slots.{living_in}
 use Rattle.outside_host.proofs.Pushed.{pushed_none, pushed_living}
 use Rattle.outside_host.proofs.slots.no_readers.Goals as goal

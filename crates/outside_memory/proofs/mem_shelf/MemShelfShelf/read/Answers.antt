@@ -1,4 +1,4 @@
-use Rattle.std.proofs.Common.{rules, refl}
+use Rattle.std.proofs.Common.{refl}
 use Rattle.outside_memory.proofs.Living.{loses_place}
 use Rattle.outside_memory.proofs.mem_shelf.MemShelfShelf.read.Goals as goal
 
