@@ -8,7 +8,7 @@ use Rattle.std.proofs.lemmas.List.Splits.{length-slice_split}
 use Rattle.flow_types.specs.declared.field_type.FieldType.{FieldType}
 use Rattle.flow_types.specs.Types.{Fields, is_bounded}
 use Rattle.flow_types.specs.Tuples.{Tuple}
-use Rattle.delim_io.specs.Fields.{and_then_all, field_value, tuple_of}
+use Rattle.delim_io.specs.Fields.{first_and_others, field_value, tuple_of}
 use Rattle.delim_io.specs.Input.{input_limit, is_plain_byte, is_plain_line, parts_at, tuple_of_line, tuples_of_parts, rows_of}
 
 -- some elements, and those that follow, where these are there
@@ -16,11 +16,11 @@ abbrev pub onto : {X : Type 0} → List X → Option (List X) → Option (List X
 onto front None = None
 onto front (Some back) = Some (front ++ back)
 
-pub none_first : {X : Type 0} (o : Option (List X)) → and_then_all None o ≡ None
+pub none_first : {X : Type 0} (o : Option (List X)) → first_and_others None o ≡ None
 none_first None = refl
 none_first (Some back) = refl
 
-pub none_after : {X : Type 0} (o : Option X) → and_then_all o None ≡ None
+pub none_after : {X : Type 0} (o : Option X) → first_and_others o None ≡ None
 none_after None = refl
 none_after (Some x) = refl
 
@@ -76,11 +76,11 @@ pub bounded_at : (fields : Fields) (i : ℕ) (f : FieldType) → IsTrue (list_al
 bounded_at fields i f all within = All-get_or (λ x. is_bounded x ≡ true) fields i f within (AllPass-from_list_all is_bounded fields all)
 
 -- a line and the parts behind it, of which there is at least one
-lines_more : (fields : Fields) (delimiter : ℕ) (line : List ℕ) (parts : List (List ℕ)) → 0 < length parts → tuples_of_parts fields delimiter (line ∷ parts) ≡ and_then_all (tuple_of_line fields delimiter line) (tuples_of_parts fields delimiter parts)
+lines_more : (fields : Fields) (delimiter : ℕ) (line : List ℕ) (parts : List (List ℕ)) → 0 < length parts → tuples_of_parts fields delimiter (line ∷ parts) ≡ first_and_others (tuple_of_line fields delimiter line) (tuples_of_parts fields delimiter parts)
 lines_more fields delimiter line [] some = absurd (omega arith)
 lines_more fields delimiter line (next ∷ parts) some = refl
 
-first_line : (fields : Fields) (delimiter : ℕ) (rest line after : List ℕ) → parts_at 10 rest ≡ line ∷ parts_at 10 after → tuples_of_parts fields delimiter (parts_at 10 rest) ≡ and_then_all (tuple_of_line fields delimiter line) (tuples_of_parts fields delimiter (parts_at 10 after))
+first_line : (fields : Fields) (delimiter : ℕ) (rest line after : List ℕ) → parts_at 10 rest ≡ line ∷ parts_at 10 after → tuples_of_parts fields delimiter (parts_at 10 rest) ≡ first_and_others (tuple_of_line fields delimiter line) (tuples_of_parts fields delimiter (parts_at 10 after))
 first_line fields delimiter rest line after cut =
     ap (tuples_of_parts fields delimiter) cut ∙ lines_more fields delimiter line (parts_at 10 after) (omega (arith, length-slice_split (λ b. b == 10) after))
 
