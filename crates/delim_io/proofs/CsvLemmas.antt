@@ -1,13 +1,13 @@
 -- How csv reads a line without quotes, carriage returns and line feeds.
-use Rattle.std.proofs.Common.{◌≡◌, ℕ, ◌<◌, ◌==◌, Bool, true, false, not, ◌&&◌, ◌||◌, IsTrue, List, [], ◌∷◌, ◌++◌, length, Some, refl, sym, ap, ◌∙◌, arith, append_assoc, append-nil, inl, inr}
+use Rattle.std.proofs.Common.{◌≡◌, ℕ, ◌<◌, ◌==◌, Bool, true, false, not, ◌&&◌, ◌||◌, IsTrue, List, [], ◌∷◌, ◌++◌, length, Some, refl, ap, ◌∙◌, arith, append_assoc, append-nil, inl, inr}
 use Rattle.std.specs.List.{list_all, onto_first}
 use Rattle.std.proofs.lemmas.Bool.{and_parts, not-true, cases_Bool}
-use Rattle.std.proofs.lemmas.List.Splits.{slice_split-cons_yes, slice_split-cons_no, length-slice_split}
-use Rattle.csv.specs.Machine.{Read, next_record}
+use Rattle.std.proofs.lemmas.List.Splits.{length-slice_split}
+use Rattle.csv.specs.Machine.{next_record}
 use Rattle.csv.specs.Reading.{default_config, strip_bom}
 use Rattle.csv.specs.declared.parser.Config.{Config}
 use Rattle.csv.specs.declared.parser.State.TheVariants as st
-use Rattle.delim_io.specs.Input.{is_unmarked, is_plain_line, starts_with_mark, parts_at, csv_record, IsReadAsParts}
+use Rattle.delim_io.specs.Input.{is_unmarked, is_plain_line, starts_with_mark, parts_at, IsReadAsParts}
 
 abbrev config : ℕ → Config
 config d = record default_config { delimiter = d }

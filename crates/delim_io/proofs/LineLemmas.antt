@@ -1,16 +1,14 @@
 -- Steps of reading the lines of an input, and the fields of a line.
-use Rattle.std.proofs.Common.{◌≡◌, ◌≢◌, ℕ, ◌+◌, ◌<◌, ◌≤◌, ◌==◌, nat_le, Bool, true, false, ◌&&◌, IsTrue, if◌then◌else◌, List, [], ◌∷◌, ◌++◌, length, drop, get_or, Option, Some, None, refl, sym, ap, ◌∙◌, arith, append_assoc, append-nil}
+use Rattle.std.proofs.Common.{◌≡◌, ℕ, ◌+◌, ◌<◌, ◌==◌, nat_le, Bool, true, false, ◌&&◌, IsTrue, if◌then◌else◌, List, [], ◌∷◌, ◌++◌, length, drop, get_or, Option, Some, None, refl, ap, ◌∙◌, arith}
 use Rattle.std.specs.List.{list_all}
-use Rattle.std.proofs.lemmas.Bool.{ne_eqb, le-leb}
 use Rattle.std.proofs.lemmas.List.{drop_more, drop_all}
 use Rattle.std.proofs.lemmas.List.Elements.{All-get_or}
 use Rattle.std.proofs.lemmas.List.Sums.{AllPass-from_list_all}
 use Rattle.std.proofs.lemmas.List.Splits.{length-slice_split}
 use Rattle.flow_types.specs.declared.field_type.FieldType.{FieldType}
-use Rattle.flow_types.specs.declared.value.Value.{Value}
 use Rattle.flow_types.specs.Types.{Fields, is_bounded}
 use Rattle.flow_types.specs.Tuples.{Tuple}
-use Rattle.delim_io.specs.Fields.{and_then_all, field_value, tuple_of}
+use Rattle.delim_io.specs.Fields.{first_and_others, field_value, tuple_of}
 use Rattle.delim_io.specs.Input.{input_limit, is_plain_byte, is_plain_line, parts_at, tuple_of_line, tuples_of_parts, rows_of}
 
 -- some elements, and those that follow, where these are there
@@ -18,19 +16,11 @@ abbrev pub onto : {X : Type 0} → List X → Option (List X) → Option (List X
 onto front None = None
 onto front (Some back) = Some (front ++ back)
 
-pub onto_nothing : {X : Type 0} (o : Option (List X)) → o ≡ onto [] o
-onto_nothing None = refl
-onto_nothing (Some back) = refl
-
-pub onto_more : {X : Type 0} (front : List X) (x : X) (o : Option (List X)) → onto front (and_then_all (Some x) o) ≡ onto (front ++ x ∷ []) o
-onto_more front x None = refl
-onto_more front x (Some back) = ap Some (sym (append_assoc front (x ∷ []) back))
-
-pub none_first : {X : Type 0} (o : Option (List X)) → and_then_all None o ≡ None
+pub none_first : {X : Type 0} (o : Option (List X)) → first_and_others None o ≡ None
 none_first None = refl
 none_first (Some back) = refl
 
-pub none_after : {X : Type 0} (o : Option X) → and_then_all o None ≡ None
+pub none_after : {X : Type 0} (o : Option X) → first_and_others o None ≡ None
 none_after None = refl
 none_after (Some x) = refl
 
@@ -75,21 +65,6 @@ module _ (fields : Fields) (delimiter : ℕ) (line : List ℕ) (values : Tuple) 
       let end : drop (i + 1) fields ≡ [] = drop_all (i + 1) fields (omega arith) in
       from_rest (rw (here, end, cut, no_fields (parts_at delimiter after) (omega (arith, length-slice_split (λ b. b == delimiter) after))) (none_after (field_value (get_or fields i f) text)))
 
-  -- the last field's text has no value
-  pub last_refused : (f : FieldType) → i + 1 ≡ length fields → parts_at delimiter rest ≡ rest ∷ [] → field_value (get_or fields i f) rest ≡ None → tuple_of_line fields delimiter line ≡ None
-  last_refused f last whole refused =
-      let here = drop_more fields i f (omega arith) in
-      let end : drop (i + 1) fields ≡ [] = drop_all (i + 1) fields (omega arith) in
-      from_rest (rw (here, end, whole, refused) refl)
-
-  -- the last field's text has a value
-  pub last_taken : (f : FieldType) (v : Value) → is_plain_line line ≡ true → i + 1 ≡ length fields → parts_at delimiter rest ≡ rest ∷ [] → field_value (get_or fields i f) rest ≡ Some v → tuple_of_line fields delimiter line ≡ Some (values ++ v ∷ [])
-  last_taken f v plain last whole found =
-      let here = drop_more fields i f (omega arith) in
-      let end : drop (i + 1) fields ≡ [] = drop_all (i + 1) fields (omega arith) in
-      let left : tuple_of (drop i fields) (parts_at delimiter rest) ≡ Some (v ∷ []) = rw (here, end, whole, found) refl in
-      rw plain (taken ∙ ap (onto values) left)
-
   -- the text of a field that isn't the last has no value
   pub field_refused : (f : FieldType) (text after : List ℕ) → i < length fields → parts_at delimiter rest ≡ text ∷ parts_at delimiter after → field_value (get_or fields i f) text ≡ None → tuple_of_line fields delimiter line ≡ None
   field_refused f text after within cut refused =
@@ -100,16 +75,12 @@ module _ (fields : Fields) (delimiter : ℕ) (line : List ℕ) (values : Tuple) 
 pub bounded_at : (fields : Fields) (i : ℕ) (f : FieldType) → IsTrue (list_all is_bounded fields) → i < length fields → IsTrue (is_bounded (get_or fields i f))
 bounded_at fields i f all within = All-get_or (λ x. is_bounded x ≡ true) fields i f within (AllPass-from_list_all is_bounded fields all)
 
-nil_from_length : {X : Type 0} (xs : List X) → length xs ≡ 0 → xs ≡ []
-nil_from_length [] e = refl
-nil_from_length (x ∷ xs) e = absurd (omega arith)
-
 -- a line and the parts behind it, of which there is at least one
-lines_more : (fields : Fields) (delimiter : ℕ) (line : List ℕ) (parts : List (List ℕ)) → 0 < length parts → tuples_of_parts fields delimiter (line ∷ parts) ≡ and_then_all (tuple_of_line fields delimiter line) (tuples_of_parts fields delimiter parts)
+lines_more : (fields : Fields) (delimiter : ℕ) (line : List ℕ) (parts : List (List ℕ)) → 0 < length parts → tuples_of_parts fields delimiter (line ∷ parts) ≡ first_and_others (tuple_of_line fields delimiter line) (tuples_of_parts fields delimiter parts)
 lines_more fields delimiter line [] some = absurd (omega arith)
 lines_more fields delimiter line (next ∷ parts) some = refl
 
-first_line : (fields : Fields) (delimiter : ℕ) (rest line after : List ℕ) → parts_at 10 rest ≡ line ∷ parts_at 10 after → tuples_of_parts fields delimiter (parts_at 10 rest) ≡ and_then_all (tuple_of_line fields delimiter line) (tuples_of_parts fields delimiter (parts_at 10 after))
+first_line : (fields : Fields) (delimiter : ℕ) (rest line after : List ℕ) → parts_at 10 rest ≡ line ∷ parts_at 10 after → tuples_of_parts fields delimiter (parts_at 10 rest) ≡ first_and_others (tuple_of_line fields delimiter line) (tuples_of_parts fields delimiter (parts_at 10 after))
 first_line fields delimiter rest line after cut =
     ap (tuples_of_parts fields delimiter) cut ∙ lines_more fields delimiter line (parts_at 10 after) (omega (arith, length-slice_split (λ b. b == 10) after))
 
@@ -121,35 +92,10 @@ no_rows fields delimiter bytes e = go (nat_le (length bytes) input_limit && list
     go true = e
     go false = refl
 
--- an input is too large, or has a quote or a carriage return
-pub no_form : (fields : Fields) (delimiter : ℕ) (bytes : List ℕ) → (nat_le (length bytes) input_limit && list_all is_plain_byte bytes) ≡ false → rows_of fields delimiter bytes ≡ None
-no_form fields delimiter bytes e = rw e refl
-
 module _ (fields : Fields) (delimiter : ℕ) (bytes : List ℕ) (tuples : List Tuple) (rest : List ℕ) (passed : Passed fields delimiter bytes tuples rest) where
-  -- what stands after the last line feed isn't empty
-  pub line_open : length rest ≢ 0 → parts_at 10 rest ≡ rest ∷ [] → rows_of fields delimiter bytes ≡ None
-  line_open some whole =
-      let e : (length rest == 0) ≡ false = ne_eqb (length rest) 0 some in
-      let left : tuples_of_parts fields delimiter (parts_at 10 rest) ≡ None = rw (whole, e) refl in
-      no_rows fields delimiter bytes (passed ∙ ap (onto tuples) left)
-
   -- a line has no tuple
   pub line_refused : (line after : List ℕ) → parts_at 10 rest ≡ line ∷ parts_at 10 after → tuple_of_line fields delimiter line ≡ None → rows_of fields delimiter bytes ≡ None
   line_refused line after cut refused =
       let left : tuples_of_parts fields delimiter (parts_at 10 rest) ≡ None =
       rw (first_line fields delimiter rest line after cut, refused) (none_first (tuples_of_parts fields delimiter (parts_at 10 after))) in
       no_rows fields delimiter bytes (passed ∙ ap (onto tuples) left)
-
-  -- a line has a tuple
-  pub line_passed : (line after : List ℕ) (t : Tuple) → parts_at 10 rest ≡ line ∷ parts_at 10 after → tuple_of_line fields delimiter line ≡ Some t → Passed fields delimiter bytes (tuples ++ t ∷ []) after
-  line_passed line after t cut found =
-      let left : tuples_of_parts fields delimiter (parts_at 10 rest) ≡ and_then_all (Some t) (tuples_of_parts fields delimiter (parts_at 10 after)) =
-      rw (first_line fields delimiter rest line after cut, found) refl in
-      passed ∙ ap (onto tuples) left ∙ onto_more tuples t (tuples_of_parts fields delimiter (parts_at 10 after))
-
-  -- every line was passed
-  pub all_passed : length bytes ≤ input_limit → list_all is_plain_byte bytes ≡ true → length rest ≡ 0 → rows_of fields delimiter bytes ≡ Some tuples
-  all_passed small plain end =
-      let a = le-leb (length bytes) input_limit small in
-      let empty : rest ≡ [] = nil_from_length rest end in
-      rw (a, plain) (passed ∙ rw empty (ap Some (append-nil tuples)))

@@ -45,15 +45,15 @@ field_value type.Bool text = option_map value.Bool (bool_value text)
 field_value (type.Str bound) text = option_map value.Str (text_value bound text)
 
 -- a first part and the others, where both are there
-abbrev pub and_then_all : {X : Type 0} → Option X → Option (List X) → Option (List X)
-and_then_all None None = None
-and_then_all None (Some xs) = None
-and_then_all (Some x) None = None
-and_then_all (Some x) (Some xs) = Some (x ∷ xs)
+abbrev pub first_and_others : {X : Type 0} → Option X → Option (List X) → Option (List X)
+first_and_others None None = None
+first_and_others None (Some xs) = None
+first_and_others (Some x) None = None
+first_and_others (Some x) (Some xs) = Some (x ∷ xs)
 
 -- the tuple of the texts of a line's fields: as many as the schema has, each with a value of its type
 abbrev pub tuple_of : Fields → List (List ℕ) → Option Tuple
 tuple_of [] [] = Some []
 tuple_of [] (text ∷ texts) = None
 tuple_of (f ∷ fs) [] = None
-tuple_of (f ∷ fs) (text ∷ texts) = and_then_all (field_value f text) (tuple_of fs texts)
+tuple_of (f ∷ fs) (text ∷ texts) = first_and_others (field_value f text) (tuple_of fs texts)

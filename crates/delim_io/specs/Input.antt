@@ -5,7 +5,7 @@ use Rattle.csv.specs.Reading.{default_config, is_bom, strip_bom}
 use Rattle.csv.specs.declared.parser.State.TheVariants as st
 use Rattle.flow_types.specs.Types.{Fields}
 use Rattle.flow_types.specs.Tuples.{Tuple}
-use Rattle.delim_io.specs.Fields.{and_then_all, tuple_of}
+use Rattle.delim_io.specs.Fields.{first_and_others, tuple_of}
 
 -- The first input form, whose lines can be cut by hand, is this project's own.
 
@@ -46,7 +46,7 @@ abbrev pub tuples_of_parts : Fields → ℕ → List (List ℕ) → Option (List
 tuples_of_parts fields delimiter [] = None
 tuples_of_parts fields delimiter (last ∷ []) = if length last == 0 then Some [] else None
 tuples_of_parts fields delimiter (line ∷ next ∷ parts) =
-    and_then_all (tuple_of_line fields delimiter line) (tuples_of_parts fields delimiter (next ∷ parts))
+    first_and_others (tuple_of_line fields delimiter line) (tuples_of_parts fields delimiter (next ∷ parts))
 
 -- the rows of an input, and None exactly where it isn't of the first form: it has at most 65,536 bytes, none of them
 -- a quote or a carriage return, it is empty or its last byte is a line feed, and each of its lines has a tuple

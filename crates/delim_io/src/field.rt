@@ -74,10 +74,12 @@ fn read_text(alloc: Global, bound: u16, text: &[u8]) -> Result<Text, InputFault>
 fn read_bool(text: &[u8]) -> Option<bool>
     ensures { result ≡ bool_value text.now }
 {
-    match text {
-        b"true" => Some(true),
-        b"false" => Some(false),
-        _ => None,
+    if text == b"true".as_slice() {
+        Some(true)
+    } else if text == b"false".as_slice() {
+        Some(false)
+    } else {
+        None
     }
 }
 

@@ -19,6 +19,7 @@ pub const INPUT_LIMIT: usize = 65_536;
 /// return; it is empty or ends with a line feed; each line has a byte and doesn't begin with EF BB
 /// BF. A line is split at the delimiter. A Long is an optional `-` and digits, a Bool is `true` or
 /// `false`, a Str is UTF-8 within its bound. `NotBuilt` comes exactly where it isn't of that form.
+/// Any byte may be the delimiter.
 ///
 /// The bytes are looked at once for quotes, once for line feeds, once for delimiters and once for
 /// values. Each row allocates once, and once more for each of its texts.

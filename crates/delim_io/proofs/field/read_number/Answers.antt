@@ -1,4 +1,4 @@
-use Rattle.std.proofs.Common.{rules, arith}
+use Rattle.std.proofs.Common.{arith}
 use Rattle.delim_io.proofs.FieldLemmas.{digits_more, value_more}
 use Rattle.delim_io.proofs.field.read_number.Goals as goal
 

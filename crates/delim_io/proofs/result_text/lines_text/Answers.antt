@@ -1,6 +1,5 @@
-use Rattle.std.proofs.Common.{◌≡◌, ◌+◌, ◌++◌, ◌∙◌, take, map, sym, ap, subst, take_all, arith}
+use Rattle.std.proofs.Common.{◌++◌, ◌∙◌, take, map, sym, ap, subst, take_all, arith}
 use Rattle.std.proofs.lemmas.Result.{IfOk-weaker}
-use Rattle.csv.specs.Records.{fields_of}
 use Rattle.csv.specs.Writing.{default_writer, row_text}
 use Rattle.delim_io.specs.LineWriter.{HoldsText}
 use Rattle.delim_io.specs.ResultText.{value_text, row_line, lines_of}

@@ -1,6 +1,5 @@
-use Rattle.std.proofs.Common.{◌≡◌, ◌≤◌, ◌-◌, ◌∙◌, take, drop, subst, arith}
+use Rattle.std.proofs.Common.{◌∙◌, subst, arith}
 use Rattle.flow_outside.specs.Told.{Appends, AppendsProperPrefix}
-use Rattle.delim_io.specs.ResultText.{lines_of}
 use Rattle.delim_io.proofs.LineTextLemmas.{lines_taken, lines_broken, lines_stopped}
 use Rattle.delim_io.proofs.result_text.write_rows.Goals as goal
 
