@@ -8,7 +8,7 @@ use Rattle.flow_types.specs.declared.field_type.FieldType.TheVariants as type
 
 -- The types of fields are this project's own.
 
--- A list of fields is a schema's; a tuple is a row's.
+-- a schema: the types of a tuple's fields
 abbrev pub Fields : Type 0
 Fields = List FieldType
 

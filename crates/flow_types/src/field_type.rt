@@ -7,14 +7,17 @@ use crate::value::Value;
 /// The type of a field.
 #[derive(Clone, Copy, Debug, PartialEq, Eq)]
 pub enum FieldType {
+    /// A number from -2^63 to 2^63 - 1, as Java's long.
     Long,
+    /// True or false.
     Bool,
     /// A text of at most so many bytes.
     Str(u16),
 }
 
 impl FieldType {
-    /// The bytes that the widest value of the field takes in a record.
+    /// The bytes that the widest value of the field takes in a record: 8 for a Long, 1 for a Bool,
+    /// and for a text its bound and 2 for its length.
     pub fn width(self) -> u32
         ensures value { result ≡ width self }
         ensures small { result ≤ 65_537 }
@@ -26,7 +29,7 @@ impl FieldType {
         }
     }
 
-    /// Whether the bound is one that a text can have.
+    /// Whether the field is no text, or one whose bound is at most 16,382.
     pub fn is_bounded(self) -> bool
         ensures { result ≡ is_bounded self }
     {
@@ -36,7 +39,7 @@ impl FieldType {
         }
     }
 
-    /// Whether a value has this field's kind and a text doesn't exceed its bound.
+    /// Whether a value has this field's kind and, where it is a text, no more bytes than the bound.
     pub fn fits(self, value: &Value) -> bool
         ensures { result ≡ fits_field self value.now }
     {

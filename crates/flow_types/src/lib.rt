@@ -1,8 +1,9 @@
 //! Values, tuples and their order, bags, schemas and expressions: what every other crate speaks
 //! of. It stands on nothing of the project but the type for want of memory.
 //!
-//! Its one promise: constructors answer `None` exactly where a limit is passed, and `compare` is
-//! the order of values.
+//! Its one promise: constructors answer `None` exactly where a text, a name or a schema hasn't its
+//! form, and `compare` is the order of values. Each definition, of expressions and bags too, stands
+//! in `specs/`, where it says whose rule it is.
 #![tactic(auto)]
 
 pub mod agg;
@@ -13,5 +14,7 @@ pub mod name;
 pub mod order_item;
 pub mod row;
 pub mod schema;
+#[cfg(test)]
+mod tests;
 pub mod text;
 pub mod value;

@@ -7,8 +7,8 @@ use flow_outside::failure::Memory;
 use std::alloc::Global;
 use std::marker::Model;
 
-/// The name of a node: a letter or `_`, and then at most 31 letters, digits or `_`. It is seen as
-/// its bytes.
+/// The name of a node: an ASCII letter or `_`, and then at most 31 ASCII letters, digits or `_`. It
+/// is seen as its bytes.
 #[derive(Debug, Drop)]
 pub struct Name {
     text: String,
@@ -26,7 +26,7 @@ impl Model for Name {
 }
 
 impl Name {
-    /// The name, or `None` exactly where the text hasn't a name's form.
+    /// The name, or `None` exactly where the text hasn't a name's form. It keeps the text as it is.
     pub fn of(text: String) -> Option<Name>
         ensures { SomeIff result (IsTrue (is_name (string_bytes text))) (string_bytes text) }
     {
@@ -36,6 +36,7 @@ impl Name {
         Some(Name { text })
     }
 
+    /// The name's text, which has a name's form.
     pub fn as_str(&self) -> &str
         ensures value { result.now ≡ self.now }
         ensures form { IsTrue (is_name self.now) }
@@ -43,6 +44,7 @@ impl Name {
         self.text.as_str()
     }
 
+    /// A copy; the cost is one allocation of at most 32 bytes.
     pub fn copy(&self, alloc: Global) -> Result<Name, Memory>
         ensures { IfOk result (λ n. n ≡ self.now) }
     {
@@ -53,7 +55,7 @@ impl Name {
     }
 }
 
-/// Whether a text has a name's form.
+/// Whether a text has a name's form; the cost is one look at each of at most 32 bytes.
 pub fn is_name(text: &[u8]) -> bool
     ensures { result ≡ is_name text.now }
 {
@@ -63,12 +65,14 @@ pub fn is_name(text: &[u8]) -> bool
     }
 }
 
+/// Whether a byte is an ASCII letter or `_`.
 fn is_letter(byte: u8) -> bool
     ensures { result ≡ is_letter byte }
 {
     (65 <= byte && byte <= 90) || (97 <= byte && byte <= 122) || byte == 95
 }
 
+/// Whether a byte is an ASCII letter or digit, or `_`.
 fn is_name_byte(byte: u8) -> bool
     ensures { result ≡ is_name_byte byte }
 {

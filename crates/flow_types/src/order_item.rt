@@ -1,4 +1,5 @@
-/// One item of an order: a field's number from 0, and whether it goes down.
+/// One item of an order on tuples: a field's number from 0, and whether the greater values of the
+/// field stand first.
 #[derive(Clone, Copy, Debug, PartialEq, Eq)]
 pub struct OrderItem {
     pub field: u16,

@@ -17,7 +17,7 @@ pub const FIELD_LIMIT: usize = 32;
 pub const RECORD_LIMIT: u32 = 16_384;
 
 /// The types of a tuple's fields, seen as their list: 1 to 32 fields, no text's bound above 16,382,
-/// and no record above 16,384 bytes.
+/// and a widest record of at most 16,384 bytes.
 #[derive(Debug, Drop)]
 pub struct Schema {
     fields: Vec<FieldType>,
@@ -35,7 +35,8 @@ impl Model for Schema {
 }
 
 impl Schema {
-    /// The schema of these fields, or `None` exactly where they pass a limit.
+    /// The schema of these fields, in the vector as it is, or `None` exactly where there are not 1
+    /// to 32 of them, a text's bound exceeds 16,382, or the widest record exceeds 16,384 bytes.
     pub fn of(fields: Vec<FieldType>) -> Option<Schema>
         ensures { SomeIff result (IsTrue (is_schema fields.items)) fields.items }
     {
@@ -45,6 +46,7 @@ impl Schema {
         Some(Schema { fields })
     }
 
+    /// The fields' types, which keep a schema's limits.
     pub fn fields(&self) -> &[FieldType]
         ensures value { result.now ≡ self.now }
         ensures limits { IsTrue (is_schema self.now) }
@@ -52,7 +54,7 @@ impl Schema {
         self.fields.as_slice()
     }
 
-    /// The bytes of the widest record.
+    /// The bytes of the widest record, at most 16,384; it is summed over the fields at each call.
     pub fn max_bytes(&self) -> u32
         ensures { result ≡ widest self.now }
     {
@@ -60,12 +62,14 @@ impl Schema {
     }
 
     /// Whether a row fits: as many values as fields, each of its field's kind and within its bound.
+    /// No byte of a text is read.
     pub fn fits(&self, row: &Row) -> bool
         ensures { result ≡ fits self.now row.now }
     {
         fits(self.fields.as_slice(), row.values())
     }
 
+    /// A copy; the cost is one allocation.
     pub fn copy(&self, alloc: Global) -> Result<Schema, Memory>
         ensures { IfOk result (λ s. s ≡ self.now) }
     {
@@ -86,13 +90,14 @@ fn is_schema(fields: &[FieldType]) -> bool
         && widest(fields) <= RECORD_LIMIT
 }
 
+/// Whether no text's bound exceeds a text's limit.
 fn all_bounded(fields: &[FieldType]) -> bool
     ensures { result ≡ list_all is_bounded fields.now }
 {
     fields.iter().all(|field| field.is_bounded())
 }
 
-/// The bytes of the widest record of few fields.
+/// The bytes of the widest record of at most 32 fields.
 fn widest(fields: &[FieldType]) -> u32
     requires { length fields.now ≤ 32 }
     ensures { result ≡ widest fields.now }

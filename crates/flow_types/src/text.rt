@@ -27,7 +27,7 @@ impl Model for Text {
 }
 
 impl Text {
-    /// The text, or `None` exactly where it has more than 16,382 bytes.
+    /// The text, or `None` exactly where it has more than 16,382 bytes. It keeps the text as it is.
     pub fn of(text: String) -> Option<Text>
         ensures { SomeIff result (string_len text ≤ text_limit) (string_bytes text) }
     {
@@ -37,6 +37,7 @@ impl Text {
         Some(Text { text })
     }
 
+    /// The text, of at most 16,382 bytes.
     pub fn as_str(&self) -> &str
         ensures value { result.now ≡ self.now }
         ensures bound { length result.now ≤ text_limit }
@@ -44,7 +45,7 @@ impl Text {
         self.text.as_str()
     }
 
-    /// A copy; the cost is one allocation of the text's length.
+    /// A copy; the cost is one allocation of the text's bytes.
     pub fn copy(&self, alloc: Global) -> Result<Text, Memory>
         ensures { IfOk result (λ t. t ≡ self.now) }
     {

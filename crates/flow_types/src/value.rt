@@ -11,13 +11,15 @@ use std::cmp::Ordering;
 pub enum Value {
     /// A number from -2^63 to 2^63 - 1, as Java's long.
     Long(i64),
+    /// False or true.
     Bool(bool),
+    /// A text of at most 16,382 bytes.
     Str(Text),
 }
 
 /// The order of values: Longs by number, false before true, texts by their bytes with a proper
-/// prefix first. Values of two kinds are ordered by their kinds. The bytes are compared in place, up
-/// to the first that differs.
+/// prefix first. So that the order is total, each Long stands before each Bool, and each Bool before
+/// each text. The bytes are compared in place, up to the first that differs.
 pub fn compare(a: &Value, b: &Value) -> Ordering
     ensures { result ≡ value_cmp a.now b.now }
 {
