@@ -17,6 +17,7 @@ use std::alloc::Global;
 use std::thread::Threads;
 
 /// How a run of the program ended.
+#[derive(Drop)]
 pub struct Outcome<D: Spill> {
     /// 0 where all was written, else the status of the fault.
     pub status: u8,
