@@ -1,2 +1,3 @@
 pub mod OutcomeLemmas
 pub mod PartLemmas
+pub mod CompletesLemmas

@@ -162,3 +162,30 @@ pub record IsOutcome (words : List (List ℕ)) (reads : Reads) (out err : Writes
   pub ends : EndsAsked reads out (asked_of words) end
   pub status_is : status ≡ status_of end
   pub reported : Reports err (report_of (bound_name (asked_of words)) end)
+
+-- All is well with a run: the words ask for it, the plan's file is told and served, its source is the one that is
+-- bound, the input is told and has rows, and no count rose at the two files or at the output.
+pub record IsWell (words : List (List ℕ)) (reads : Reads) (out : Writes) : Type 0 where
+  pub a : Asked
+  pub asks : asked_of words ≡ Some a
+  pub plan_bytes : List ℕ
+  pub plan_told : reads.told a.plan ≡ Some plan_bytes
+  pub plan : Plan
+  pub served : IsServed plan_bytes plan
+  pub source : Node
+  pub source_is : first_source plan ≡ Some source
+  pub bound : source.name ≡ a.name
+  pub input_bytes : List ℕ
+  pub input_told : reads.told a.path ≡ Some input_bytes
+  pub rows : List Tuple
+  pub rows_are : rows_of source.schema (delimiter_of source.op) input_bytes ≡ Some rows
+  pub plan_read : Rose (reads.before a.plan) (reads.after a.plan) → ⊥
+  pub input_read : Rose (reads.before a.path) (reads.after a.path) → ⊥
+  pub output_taken : Rose out.before out.after → ⊥
+
+-- The converse of the causes: where all is well, all is written, or memory was wanting.
+abbrev pub JobCompletes : Type 0
+JobCompletes =
+    (words : List (List ℕ)) (reads : Reads) (out err : Writes) (status : ℕ) (end : Option Fault)
+    → IsWell words reads out → IsOutcome words reads out err status end
+    → ((end ≡ None) × (status ≡ 0)) ⊎ ((end ≡ Some fault.Memory) × (status ≡ 9))

@@ -9,6 +9,7 @@
 pub mod fault;
 mod input;
 mod job;
+pub mod laws;
 mod plan;
 mod print;
 mod report;
