@@ -1,8 +1,6 @@
 use Rattle.std.specs.Prelude.{ℕ, ◌-◌, ◌^◌, ◌==◌, nat_le, Bool, true, false, ◌&&◌, if◌then◌else◌, List, [], ◌∷◌, length, ℤ, pos, neg_ℤ, Option, Some, None, option_map, codes}
-use Rattle.std.specs.List.{list_all}
-use Rattle.std.specs.Char.{is_ascii_digit}
 use Rattle.std.specs.Str.{bytes_eq, is_utf8}
-use Rattle.std.specs.Str.Parse.{digits_value}
+use Rattle.flow_types.specs.Decimal.{number_up_to}
 use Rattle.flow_types.specs.declared.value.Value.{Value}
 use Rattle.flow_types.specs.declared.value.Value.TheVariants as value
 use Rattle.flow_types.specs.declared.field_type.FieldType.{FieldType}
@@ -11,14 +9,6 @@ use Rattle.flow_types.specs.Types.{Fields}
 use Rattle.flow_types.specs.Tuples.{Tuple}
 
 -- The text of a field, and the value that it stands for. The rules are this project's own.
-
--- at least one byte, and each is a decimal digit
-abbrev pub is_numeral : List ℕ → Bool
-is_numeral text = nat_le 1 (length text) && list_all is_ascii_digit text
-
--- the number that a numeral writes, where it is at most `most`; leading zeros are allowed
-abbrev pub number_up_to : ℕ → List ℕ → Option ℕ
-number_up_to most text = if is_numeral text && nat_le (digits_value 10 text) most then Some (digits_value 10 text) else None
 
 -- a Long: an optional `-` and a numeral, with a value from -2^63 to 2^63 - 1
 abbrev pub long_value : List ℕ → Option ℤ

@@ -2,9 +2,10 @@ ghost use Rattle.std.specs.Prelude.{◌≡◌, ℕ, ◌^◌, ◌≤◌, [], ◌�
 ghost use Rattle.flow_types.specs.declared.value.Value.{Value};
 ghost use Rattle.flow_types.specs.Types.{is_bounded};
 ghost use Rattle.flow_types.specs.Limits.{text_limit};
-ghost use Rattle.delim_io.specs.Fields.{number_up_to, long_value, bool_value, text_value, field_value};
+ghost use Rattle.delim_io.specs.Fields.{long_value, bool_value, text_value, field_value};
 
 use crate::input_fault::InputFault;
+use flow_types::decimal::number_up_to;
 use flow_types::field_type::FieldType;
 use flow_types::text::Text;
 use flow_types::value::Value;
@@ -88,11 +89,11 @@ fn read_long(text: &[u8]) -> Option<i64>
 {
     match text {
         [] => None,
-        [b'-', digits @ ..] => match read_number(digits, 1 << 63) {
+        [b'-', digits @ ..] => match number_up_to(digits, 1 << 63) {
             None => None,
             Some(n) => Some(negative(n)),
         },
-        _ => match read_number(text, (1 << 63) - 1) {
+        _ => match number_up_to(text, (1 << 63) - 1) {
             None => None,
             Some(n) => Some(n as i64),
         },
@@ -108,26 +109,4 @@ fn negative(n: u64) -> i64
         0 => 0,
         _ => -1 - (n - 1) as i64,
     }
-}
-
-/// The number that digits write, where it is at most `most`.
-#[tactic(auto, using(crate::proofs::FieldLemmas::number_found, crate::proofs::FieldLemmas::number_no_digit, crate::proofs::FieldLemmas::number_too_large, crate::proofs::FieldLemmas::value_more, crate::proofs::FieldLemmas::digits_more))]
-fn read_number(digits: &[u8], most: u64) -> Option<u64>
-    ensures { result ≡ number_up_to most digits.now }
-{
-    if digits.is_empty() {
-        return None;
-    }
-    let mut number: u64 = 0;
-    for i in 0..digits.len() {
-        let byte = digits[i];
-        if byte < b'0' || byte > b'9' {
-            return None;
-        }
-        number = number.checked_mul(10)?.checked_add(u64::from(byte - b'0'))?;
-        if number > most {
-            return None;
-        }
-    }
-    Some(number)
 }
