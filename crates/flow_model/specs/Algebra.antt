@@ -20,6 +20,7 @@ abbrev pub rows_at : Env → ℕ → Tuples
 rows_at [] n = []
 rows_at (e ∷ env) n = if e.number == n then e.rows else rows_at env n
 
+-- a node that takes an input
 abbrev pub is_source : Op → Bool
 is_source (op.Source fields delimiter) = true
 is_source _ = false

@@ -10,7 +10,8 @@ use Rattle.flow_model.specs.declared.op.Op.TheVariants as op
 use Rattle.flow_model.specs.declared.plan.Node.{Node}
 use Rattle.flow_model.specs.declared.plan.Plan.{Plan}
 
--- What is built so far.
+-- What is built so far: sources, and filters that compare two operands. The algebra gives every op a
+-- meaning in time, and the plain program serves those named here.
 
 -- one of `eq`, `ne`, `lt`, `le`, `gt` and `ge`
 abbrev pub is_comparison : BinOp → Bool
@@ -46,6 +47,7 @@ shape_layer (open_expr.Expr-F.Bin op a b) = record { operand = false; test = is_
 shape_layer (open_expr.Expr-F.If c a b) = record { operand = false; test = false }
 shape_layer (open_expr.Expr-F.Cut a n) = record { operand = false; test = false }
 
+-- an expression's shape
 abbrev pub shape : Expr → Shape
 shape = fold-Expr Shape shape_layer
 

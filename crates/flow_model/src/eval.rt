@@ -15,15 +15,17 @@ use flow_types::value::{Value, compare};
 use std::alloc::Global;
 use std::cmp::Ordering;
 
-/// The rows of a node that was evaluated.
+/// The rows of a node that was evaluated, under the node's number.
 #[derive(Debug, Drop)]
 pub struct Made {
     pub number: u32,
     pub rows: Rows,
 }
 
-/// The rows of a plan's result, as the algebra gives them of the inputs. Each op of the plan must be
-/// served. The cost is a copy of every row of every node.
+/// The rows of a plan's result, as the algebra gives them of the inputs, one list of rows for each
+/// source in plan order. A source past the inputs has no rows. Each op of the plan must be served,
+/// as `is_built` says. The cost is a copy of every row of every node of the outer list and one of
+/// the result's, and for each node a walk along the nodes before it.
 pub fn eval_rows(alloc: Global, plan: &Plan, inputs: &Inputs) -> Result<Rows, Memory>
     requires { IsBuilt plan.now }
     ensures { IfOk result (λ rows. rows ≡ eval plan.now inputs.now) }
@@ -92,6 +94,7 @@ fn rows_at(made: &[Made], number: u32) -> &[Row]
     &[]
 }
 
+/// A copy of rows; one allocation for each row's list and for each text.
 fn copy_rows(alloc: Global, rows: &[Row]) -> Result<Rows, Memory>
     ensures { IfOk result (λ copied. copied ≡ rows.now) }
 {
@@ -105,6 +108,7 @@ fn copy_rows(alloc: Global, rows: &[Row]) -> Result<Rows, Memory>
     Ok(Rows::of(copied))
 }
 
+/// Copies of the rows whose test is true, in order.
 fn filter_rows(alloc: Global, test: &Expr, rows: &[Row]) -> Result<Rows, Memory>
     requires { IsTrue (is_built_test test.now) }
     ensures { IfOk result (λ kept. kept ≡ filter_rows test.now rows.now) }

@@ -40,9 +40,13 @@ pub struct Branch {
 /// Which rows without a partner a join keeps.
 #[derive(Clone, Copy, Debug, PartialEq, Eq)]
 pub enum JoinKind {
+    /// None.
     Inner,
+    /// Those of the left side.
     Left,
+    /// Those of the right side.
     Right,
+    /// Those of both sides.
     Full,
 }
 
@@ -59,40 +63,51 @@ pub enum MergeRule {
 /// number stands for its bind name.
 #[derive(Debug, Drop)]
 pub enum Op {
+    /// The rows of an input, one for a line; the delimiter stands between the fields of a line.
     Source {
         fields: TypeList,
         delimiter: u8,
     },
+    /// The columns of each row.
     Map {
         input: u32,
         columns: ExprList,
     },
+    /// The rows of which the test is true.
     Filter {
         input: u32,
         test: Expr,
     },
+    /// For each row, the columns of each branch whose `when` is true of it.
     FlatMap {
         input: u32,
         rows: BranchList,
     },
+    /// The rows of all inputs, one after the other.
     Union {
         inputs: NumberList,
     },
+    /// Each row once.
     Distinct {
         input: u32,
     },
+    /// For each key its values, and the folds of the rows that have it. `combine` lets rows be folded
+    /// before they are exchanged, and changes no result.
     Group {
         input: u32,
         key: KeyList,
         aggs: AggList,
         combine: bool,
     },
+    /// For each key the first rows by rank, at most `count` of them.
     Top {
         input: u32,
         key: KeyList,
         order: OrderList,
         count: u32,
     },
+    /// For each two rows with one key the columns over both. By its kind also rows without a partner,
+    /// beside the other side's default.
     Join {
         left: u32,
         right: u32,
@@ -103,6 +118,8 @@ pub enum Op {
         left_default: Option<Row>,
         right_default: Option<Row>,
     },
+    /// For each key of either side its values, the folds of the left rows that have it, and those of
+    /// the right rows.
     Cogroup {
         left: u32,
         right: u32,
@@ -111,6 +128,8 @@ pub enum Op {
         left_aggs: AggList,
         right_aggs: AggList,
     },
+    /// The last state. It begins as `init`, and each superstep makes `next` of it. It is the last one
+    /// after `max` supersteps, or after one whose `until` has no rows.
     Bulk {
         init: u32,
         bind: Name,
@@ -118,6 +137,8 @@ pub enum Op {
         next: u32,
         until: Option<u32>,
     },
+    /// The last solution, which holds one row for each key. Each superstep puts `delta` into it and
+    /// makes `next` of the workset, until that is empty or `max` supersteps ran.
     Delta {
         solution: u32,
         workset: u32,
@@ -129,6 +150,7 @@ pub enum Op {
         delta: u32,
         next: u32,
     },
+    /// For each row whose key the solution holds, the columns over the row and the row held.
     Probe {
         input: u32,
         key: KeyList,

@@ -3,7 +3,7 @@ ghost use Rattle.std.specs.Prelude.{◌≡◌};
 use flow_types::row::Row;
 use std::marker::Model;
 
-/// Rows, seen as the list of their tuples.
+/// Rows, seen as the list of their tuples; a list stands for a bag.
 #[derive(Debug, Drop)]
 pub struct Rows {
     rows: Vec<Row>,
@@ -18,12 +18,14 @@ impl Model for Rows {
 }
 
 impl Rows {
+    /// These rows, in the vector as it is.
     pub fn of(rows: Vec<Row>) -> Rows
         ensures { result ≡ rows.items }
     {
         Rows { rows }
     }
 
+    /// The rows, in their order.
     pub fn rows(&self) -> &[Row]
         ensures { result.now ≡ self.now }
     {
@@ -55,12 +57,14 @@ impl Model for Inputs {
 }
 
 impl Inputs {
+    /// These inputs, in the vector as it is; the first is the first source's.
     pub fn of(inputs: Vec<Rows>) -> Inputs
         ensures { result ≡ inputs.items }
     {
         Inputs { inputs }
     }
 
+    /// The inputs, in the order of their sources.
     pub fn inputs(&self) -> &[Rows]
         ensures { result.now ≡ self.now }
     {
