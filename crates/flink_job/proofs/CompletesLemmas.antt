@@ -52,6 +52,6 @@ pub completes : JobCompletes
 completes words reads out err status end well o =
     let ends = subst (λ a. EndsAsked reads out a end) well.asks o.ends in
     elim (left words reads out well end ends) [
-      inl e ↦ inl (e, o.status_is ∙ ap status_of e)
-    | inr e ↦ inr (e, o.status_is ∙ ap status_of e)
+      | inl e ↦ inl (e, o.status_is ∙ ap status_of e)
+      | inr e ↦ inr (e, o.status_is ∙ ap status_of e)
     ]

@@ -4,5 +4,4 @@ ghost use Rattle.flink_job.specs.Outcome.{JobCompletes};
 /// form, both files are told and no count rose, the status is 0, or 9 for want of memory.
 pub fn job_completes()
     ensures { JobCompletes }
-{
-}
+{}

@@ -9,6 +9,10 @@ const LONGS: &str =
 const PEOPLE: &str =
     "{\"version\":1,\"segment\":4096,\"nodes\":[{\"name\":\"t\",\"op\":\"source\",\"fields\":[\"long\",\"str:20\"]},{\"name\":\"big\",\"op\":\"filter\",\"input\":\"t\",\"test\":[\"gt\",[\"f\",0],1]}],\"result\":\"big\"}";
 
+/// A plan with a member that no plan has.
+const EXTRA: &str =
+    "{\"version\":1,\"extra\":1,\"nodes\":[{\"name\":\"t\",\"op\":\"source\",\"fields\":[\"long\"]},{\"name\":\"big\",\"op\":\"filter\",\"input\":\"t\",\"test\":[\"gt\",[\"f\",0],1]}],\"result\":\"big\"}";
+
 const ASKED: &str = "run plan 1 21 t=t";
 
 const REFUSED: &str = "input refused: t line 0 field 0: NotBuilt\n";
@@ -92,6 +96,7 @@ fn words_and_plans_have_their_forms(rt: HostRuntime) -> Result<(), Fail> {
             3,
             "plan refused: node 0: NotBuilt\n",
         ),
+        (ASKED, EXTRA, 3, "plan refused: node 0: NotBuilt\n"),
         ("run plan 1 21 u=t", LONGS, 12, "input not bound: t\n"),
         ("run none 1 21 t=t", LONGS, 5, "read failed: plan file\n"),
         ("run plan 1 21 t=none", LONGS, 5, "read failed: input t\n"),
