@@ -60,7 +60,7 @@ fn empty_disks(alloc: Global) -> Result<Vec<ZeroSpill>, Memory>
     ensures { IfOk result (λ disks. vec_len disks ≡ 32) }
 {
     let mut disks = Vec::with_capacity(alloc, 32)?;
-    for count in 0..32 {
+    for count in 0..32usize {
         disks.push(ZeroSpill::new())?;
     }
     Ok(disks)
