@@ -6,3 +6,8 @@ pub mod Types
 pub mod Tuples
 pub mod Bags
 pub mod Expressions
+pub mod ExprTypes
+pub mod Folds
+pub mod Records
+pub mod Hash
+pub mod Segments

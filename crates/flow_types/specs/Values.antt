@@ -1,8 +1,11 @@
-use Rattle.std.specs.Prelude.{ℕ, Bool, false, List, [], ℤ, pos}
+use Rattle.std.specs.Prelude.{ℕ, Bool, true, false, ◌&&◌, nat_le, List, [], length, ℤ, pos}
+use Rattle.std.specs.Int.{int_wrap, w64}
+use Rattle.std.specs.Str.{is_utf8}
 use Rattle.std.specs.Cmp.Lexicographic.{slice_cmp}
-use Rattle.std.specs.Ordering.{nat_cmp, int_cmp, bool_cmp, is_eq}
+use Rattle.std.specs.Ordering.{nat_cmp, int_cmp, bool_cmp, int_eq, is_eq}
 use Rattle.std.specs.declared.cmp.Ordering.{Ordering}
 use Rattle.std.specs.declared.cmp.Ordering.TheVariants.{Less, Greater}
+use Rattle.flow_types.specs.Limits.{text_limit}
 use Rattle.flow_types.specs.declared.value.Value.{Value}
 use Rattle.flow_types.specs.declared.value.Value.TheVariants as value
 
@@ -43,3 +46,17 @@ abbrev pub bytes_of : Value → List ℕ
 bytes_of (value.Long n) = []
 bytes_of (value.Bool b) = []
 bytes_of (value.Str s) = s
+
+-- a number from -2^63 to 2^63 - 1: one that 64 bits hold in two's complement
+abbrev pub is_long : ℤ → Bool
+is_long n = int_eq (int_wrap w64 n) n
+
+-- bytes of UTF-8, at most 16,382 of them
+abbrev pub is_text : List ℕ → Bool
+is_text s = nat_le (length s) text_limit && is_utf8 s
+
+-- a value that a field can hold: a number is a Long's, and bytes are a Str's
+abbrev pub is_value : Value → Bool
+is_value (value.Long n) = is_long n
+is_value (value.Bool b) = true
+is_value (value.Str s) = is_text s

@@ -14,6 +14,8 @@ pub mod name;
 pub mod order_item;
 pub mod row;
 pub mod schema;
+pub mod seg_size;
+pub mod span;
 #[cfg(test)]
 mod tests;
 pub mod text;
