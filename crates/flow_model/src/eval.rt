@@ -2,9 +2,11 @@ ghost use Rattle.std.specs.Prelude.{◌≡◌, List, [], ◌∷◌, ◌++◌, If
 ghost use Rattle.flow_types.specs.declared.value.Value.TheVariants as value;
 ghost use Rattle.flow_types.specs.Values.{flag_of};
 ghost use Rattle.flow_types.specs.Expressions.{val};
-ghost use Rattle.flow_model.specs.Algebra.{rows_at, eval, source_numbers, given, filter_rows, node_rows};
+ghost use Rattle.flow_model.specs.Rows.{filter_rows};
+ghost use Rattle.flow_model.specs.Algebra.{rows_at, eval, source_numbers, given, node_rows};
 ghost use Rattle.flow_model.specs.Built.{is_operand, is_comparison, holds, is_built_test, is_built_op, IsBuilt};
 
+use crate::made::Made;
 use crate::op::Op;
 use crate::plan::{Node, Plan};
 use crate::rows::{Inputs, Rows};
@@ -14,13 +16,6 @@ use flow_types::row::Row;
 use flow_types::value::{Value, compare};
 use std::alloc::Global;
 use std::cmp::Ordering;
-
-/// The rows of a node that was evaluated, under the node's number.
-#[derive(Debug, Drop)]
-pub struct Made {
-    pub number: u32,
-    pub rows: Rows,
-}
 
 /// The rows of a plan's result, as the algebra gives them of the inputs, one list of rows for each
 /// source in plan order. A source past the inputs has no rows. Each op of the plan must be served,
@@ -54,7 +49,7 @@ fn eval_node(
 ) -> Result<Rows, Memory>
     requires { IsTrue (is_built_op node.now.op) }
     ensures { IfOk result
-        (λ rows. rows ≡ node_rows (given (source_numbers nodes.now) inputs.now) made.now node.now.number node.now.op) }
+        (λ rows. rows ≡ node_rows (given (source_numbers nodes.now) inputs.now) nodes.now made.now node.now.number node.now.op) }
 {
     match &node.op {
         Op::Source { .. } => copy_rows(alloc, input_at(nodes, inputs.inputs(), node.number)),

@@ -8,6 +8,7 @@
 
 pub mod built;
 pub mod eval;
+pub mod made;
 pub mod op;
 pub mod plan;
 pub mod plan_code;

@@ -4,4 +4,4 @@ use Rattle.flow_model.proofs.eval.eval_rows.Given as goal
 
 abbrev pub invariant-loop-node : goal.invariant-loop-node
 invariant-loop-node l =
-    l.made.items ≡ fold (outer_step (given (source_numbers l.nodes) l.inputs)) [] (nodes_of 0 (take l.node-index l.nodes))
+    l.made.items ≡ fold (outer_step (given (source_numbers l.nodes) l.inputs) l.nodes) [] (nodes_of 0 (take l.node-index l.nodes))

@@ -1,5 +1,5 @@
 use Rattle.std.proofs.Common.{◌≡◌, take}
-use Rattle.flow_model.specs.Algebra.{filter_rows}
+use Rattle.flow_model.specs.Rows.{filter_rows}
 use Rattle.flow_model.proofs.eval.filter_rows.Given as goal
 
 abbrev pub invariant-loop-row : goal.invariant-loop-row
