@@ -5,4 +5,6 @@ pub mod States
 pub mod Algebra
 pub mod Segments
 pub mod Full
+pub mod Schemas
+pub mod Rules
 pub mod Built
