@@ -1,5 +1,6 @@
-use Rattle.std.specs.Prelude.{ℕ, zero, suc, ◌+◌, ◌-◌, ◌*◌, ◌/◌, ◌==◌, Bool, true, false, ◌||◌, if◌then◌else◌, max, List, [], ◌∷◌, fold}
+use Rattle.std.specs.Prelude.{ℕ, ◌+◌, ◌-◌, ◌*◌, ◌/◌, ◌==◌, Bool, true, false, if◌then◌else◌, max, List, fold}
 use Rattle.std.specs.Int.{div_ceil}
+use Rattle.std.specs.List.{list_any}
 use Rattle.flow_types.specs.Types.{widest}
 use Rattle.flow_model.specs.declared.op.Op.{Op}
 use Rattle.flow_model.specs.declared.op.Op.TheVariants as op
@@ -27,8 +28,7 @@ is_delta _ = false
 
 -- a plan has a delta iteration
 abbrev pub has_delta : List Node → Bool
-has_delta [] = false
-has_delta (node ∷ nodes) = is_delta node.op || has_delta nodes
+has_delta nodes = list_any (λ (node : Node). is_delta node.op) nodes
 
 -- the segments of a worker's exchange: an out page and a spare for each other worker, and one in hand; none where there
 -- is one worker

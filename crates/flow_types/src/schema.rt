@@ -1,6 +1,7 @@
 ghost use Rattle.std.specs.Prelude.{◌≡◌, ◌≤◌, ◌*◌, IsTrue, IfOk, length, sum_by};
 ghost use Rattle.std.specs.Option.{SomeIff};
 ghost use Rattle.std.specs.List.{list_all};
+ghost use Rattle.flow_types.specs.Limits.{record_limit};
 ghost use Rattle.flow_types.specs.Types.{width, widest, is_schema, is_bounded, fits};
 
 use crate::field_type::FieldType;
@@ -56,7 +57,8 @@ impl Schema {
 
     /// The bytes of the widest record, at most 16,384; it is summed over the fields at each call.
     pub fn max_bytes(&self) -> u32
-        ensures { result ≡ widest self.now }
+        ensures bytes { result ≡ widest self.now }
+        ensures limit { result ≤ record_limit }
     {
         widest(self.fields.as_slice())
     }
