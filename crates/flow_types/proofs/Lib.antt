@@ -1,6 +1,9 @@
 pub mod BagBridges
 pub mod BagLaws
 pub mod DecimalLemmas
+pub mod FoldLaws
+pub mod FoldLongs
+pub mod ValueLemmas
 pub mod OrderLaws
 pub mod RankLaws
 pub mod SortLaws

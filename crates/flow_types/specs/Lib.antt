@@ -10,6 +10,7 @@ pub mod LawsOfBags
 pub mod Expressions
 pub mod ExprTypes
 pub mod Folds
+pub mod LawsOfFolds
 pub mod Records
 pub mod Hash
 pub mod Segments

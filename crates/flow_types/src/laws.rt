@@ -1,5 +1,6 @@
 //! Laws of the definitions in `specs/`. Each function does nothing; its contract is the law.
 ghost use Rattle.flow_types.specs.LawsOfBags.{SameBagIsEquivalence, SameBagsAgree, StepsKeepBags, SameOfSameBags, RankIsAnOrder};
+ghost use Rattle.flow_types.specs.LawsOfFolds.{FoldsOfSameBags, FoldsSplit, PartsMerge, FoldsGiveLongs};
 
 /// To be the same bag is an equivalence, on lists of any type.
 pub fn same_bag_is_equivalence<X>()
@@ -26,4 +27,25 @@ pub fn same_of_same_bags<X, Y>()
 /// The rank of tuples is a total order in which only equal tuples tie.
 pub fn rank_is_an_order()
     ensures { RankIsAnOrder }
+{}
+
+/// The value of a fold is the same of the same bags, and so is what is kept of them.
+pub fn folds_of_same_bags()
+    ensures { FoldsOfSameBags }
+{}
+
+/// Of one list of rows after the other, sums add, and the least and the greatest are those of both.
+pub fn folds_split()
+    ensures { FoldsSplit }
+{}
+
+/// What folds keep of parts of the rows merges, in any order and grouping, to what they keep of all
+/// rows, and that finishes to the fold's value.
+pub fn parts_merge()
+    ensures { PartsMerge }
+{}
+
+/// A fold gives a Long's number where its rows hold values and its stated number is a Long's.
+pub fn folds_give_longs()
+    ensures { FoldsGiveLongs }
 {}
