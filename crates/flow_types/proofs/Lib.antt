@@ -7,4 +7,7 @@ pub mod ValueLemmas
 pub mod OrderLaws
 pub mod RankLaws
 pub mod SortLaws
+pub mod SoundLaws
+pub mod TextLemmas
 pub mod TupleLemmas
+pub mod TypeLaws

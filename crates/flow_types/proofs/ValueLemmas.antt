@@ -16,6 +16,11 @@ pub both_true : (a b : Bool) → (a && b) ≡ true → (a ≡ true) × (b ≡ tr
 both_true true b h = (refl, h)
 both_true false b h = cc
 
+-- two tests that pass, together
+pub both_pass : (a b : Bool) → a ≡ true → b ≡ true → (a && b) ≡ true
+both_pass true b g h = h
+both_pass false b g h = cc
+
 -- a number that fits in 64 bits is a Long's, and the other way round
 pub long_from_fits : (n : ℤ) → FitsSigned w64 n → IsTrue (is_long n)
 long_from_fits n fits = (Decides-int_eq (int_wrap w64 n) n).1 (int_wrap_fits w64 n fits)
@@ -33,7 +38,7 @@ long-wrap n = long_from_fits (wrap n) (SFits-int_wrap w64 n)
 pub long-pos : (n : ℕ) → n < 9223372036854775808 → IsTrue (is_long (pos n))
 long-pos n small = long_from_fits (pos n) (record { sfits = small })
 
-long-zero : IsTrue (is_long (pos 0))
+pub long-zero : IsTrue (is_long (pos 0))
 long-zero = long-pos 0 (omega arith)
 
 pub long-long_of : (v : Value) → IsTrue (is_value v) → IsTrue (is_long (long_of v))

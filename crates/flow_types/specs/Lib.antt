@@ -12,5 +12,6 @@ pub mod ExprTypes
 pub mod Folds
 pub mod LawsOfFolds
 pub mod Records
+pub mod LawsOfTypes
 pub mod Hash
 pub mod Segments

@@ -1,6 +1,7 @@
 //! Laws of the definitions in `specs/`. Each function does nothing; its contract is the law.
 ghost use Rattle.flow_types.specs.LawsOfBags.{SameBagIsEquivalence, SameBagsAgree, StepsKeepBags, SameOfSameBags, RankIsAnOrder};
 ghost use Rattle.flow_types.specs.LawsOfFolds.{FoldsOfSameBags, FoldsSplit, PartsMerge, FoldsGiveLongs};
+ghost use Rattle.flow_types.specs.LawsOfTypes.{TypesAreSound};
 
 /// To be the same bag is an equivalence, on lists of any type.
 pub fn same_bag_is_equivalence<X>()
@@ -48,4 +49,10 @@ pub fn parts_merge()
 /// A fold gives a Long's number where its rows hold values and its stated number is a Long's.
 pub fn folds_give_longs()
     ensures { FoldsGiveLongs }
+{}
+
+/// The value of an expression fits its type, on every row of the schema. Where no part is wider than
+/// a text and the literals are values, it is a value that a field can hold.
+pub fn types_are_sound()
+    ensures { TypesAreSound }
 {}
