@@ -1,9 +1,12 @@
 pub mod BagBridges
 pub mod BagLaws
+pub mod BagSplits
+pub mod ColumnLaws
 pub mod DecimalLemmas
+pub mod EqLemmas
+pub mod ExprEquations
 pub mod FoldLaws
 pub mod FoldLongs
-pub mod ValueLemmas
 pub mod OrderLaws
 pub mod RankLaws
 pub mod SortLaws
@@ -11,3 +14,4 @@ pub mod SoundLaws
 pub mod TextLemmas
 pub mod TupleLemmas
 pub mod TypeLaws
+pub mod ValueLemmas

@@ -24,7 +24,7 @@ use Rattle.flow_types.specs.Tuples.{Tuple}
 use Rattle.flow_types.specs.Types.{Fields, fits, fits_field}
 use Rattle.flow_types.specs.Expressions.{val, node_value, div, rem, apply_one, apply_two}
 use Rattle.flow_types.specs.ExprTypes.{Typing, typing_of, typing_layer, type_layer, narrow_layer, is_narrow_type, type_of, type_of_one, type_of_two, type_of_cut}
-use Rattle.flow_types.specs.LawsOfTypes.{has_values, literals_layer}
+use Rattle.flow_types.specs.LawsOfTypes.{has_values, literals_layer, HasType}
 use Rattle.flow_types.proofs.ValueLemmas.{both_true, long-wrap, long-zero, long-pos, long_from_fits, fits_from_long, long-long_of, value-field}
 use Rattle.flow_types.proofs.TextLemmas.{text-nil, text-le, text-cut, text-append}
 use Rattle.flow_types.proofs.TypeLaws.{bound_of, value_fits}
@@ -132,3 +132,6 @@ module _ (fields : Fields) (t : Tuple) where
     -- what has a type, no part wider than a text, and values as literals, has a value that a field can hold
     pub value_good : (e : Expr) → IsGood fields t e
     value_good = ind-Expr (IsGood fields t) (λ x y is. subst (λ z. IsGood fields t (roll-Expr z)) is (good_roll y))
+
+    pub typed_value : (e : Expr) (f : FieldType) → HasType fields e f → is_value (val t e) ≡ true
+    typed_value e f h = value_good e f h.typed h.narrow h.literals

@@ -1,10 +1,12 @@
-use Rattle.std.specs.Prelude.{◌≡◌, ◌↔◌, Bool, List, ◌++◌, length, map, filter, fold, count_by, IsPermutation}
+use Rattle.std.specs.Prelude.{◌≡◌, ◌↔◌, Bool, false, ◌&&◌, ◌||◌, IsTrue, List, ◌++◌, length, map, filter, fold, count_by, IsPermutation}
 use Rattle.std.specs.List.{flat_map, list_all, list_any}
 use Rattle.std.specs.Cmp.{IsTotalOrder}
 use Rattle.std.specs.declared.cmp.Ordering.{Ordering}
 use Rattle.std.specs.declared.cmp.Ordering.TheVariants.{Equal}
 use Rattle.flow_types.specs.declared.order_item.OrderItem.{OrderItem}
-use Rattle.flow_types.specs.Tuples.{Tuple, rank_cmp}
+use Rattle.flow_types.specs.declared.value.Value.{Value}
+use Rattle.flow_types.specs.Values.{value_eq}
+use Rattle.flow_types.specs.Tuples.{Tuple, tuple_eq, rank_cmp}
 use Rattle.flow_types.specs.Bags.{IsSameBag, sort_by, ordered}
 use Rattle.flow_types.specs.SameBags.{SameBag}
 
@@ -52,3 +54,16 @@ pub record RankIsAnOrder : Type 0 where
   pub total : (items : List OrderItem) → IsTotalOrder (rank_cmp items)
   pub ties : (items : List OrderItem) → TiesOnlyEqual (rank_cmp items)
   pub one_list : (items : List OrderItem) (xs ys : List Tuple) → SameBag xs ys → sort_by (rank_cmp items) xs ≡ sort_by (rank_cmp items) ys
+
+-- Bags in parts: what a test keeps is what one of two tests keeps and then what the other keeps, where no
+-- element is kept by both; two lists for each element may stand one behind the other; and pairs from two
+-- lists are the same bag whichever list is walked outside.
+pub record BagsSplit (X Y Z : Type 0) : Type 0 where
+  pub filtered : (p q r : X → Bool) → ((x : X) → p x ≡ (q x || r x)) → ((x : X) → (q x && r x) ≡ false) → (xs : List X) → SameBag (filter p xs) (filter q xs ++ filter r xs)
+  pub appended : (f g : X → List Y) (xs : List X) → SameBag (flat_map (λ x. f x ++ g x) xs) (flat_map f xs ++ flat_map g xs)
+  pub nested : (f : X → Y → List Z) (xs : List X) (ys : List Y) → SameBag (flat_map (λ x. flat_map (f x) ys) xs) (flat_map (λ y. flat_map (λ x. f x y) xs) ys)
+
+-- The tests of equal values and tuples are true exactly of what is equal.
+pub record TestsTellEqual : Type 0 where
+  pub values : (v w : Value) → IsTrue (value_eq v w) ↔ (v ≡ w)
+  pub tuples : (t u : Tuple) → IsTrue (tuple_eq t u) ↔ (t ≡ u)

@@ -1,5 +1,5 @@
 //! Laws of the definitions in `specs/`. Each function does nothing; its contract is the law.
-ghost use Rattle.flow_types.specs.LawsOfBags.{SameBagIsEquivalence, SameBagsAgree, StepsKeepBags, SameOfSameBags, RankIsAnOrder};
+ghost use Rattle.flow_types.specs.LawsOfBags.{SameBagIsEquivalence, SameBagsAgree, StepsKeepBags, SameOfSameBags, RankIsAnOrder, BagsSplit, TestsTellEqual};
 ghost use Rattle.flow_types.specs.LawsOfFolds.{FoldsOfSameBags, FoldsSplit, PartsMerge, FoldsGiveLongs};
 ghost use Rattle.flow_types.specs.LawsOfTypes.{TypesAreSound};
 
@@ -23,6 +23,17 @@ pub fn steps_keep_bags<X, Y>()
 /// for each total order in which only equal elements tie.
 pub fn same_of_same_bags<X, Y>()
     ensures { SameOfSameBags X Y }
+{}
+
+/// A filter in two, appended functions in a flat map, and one flat map inside another make the same
+/// bags, of any types.
+pub fn bags_split<X, Y, Z>()
+    ensures { BagsSplit X Y Z }
+{}
+
+/// The tests of equal values and of equal tuples are true exactly of what is equal.
+pub fn tests_tell_equal()
+    ensures { TestsTellEqual }
 {}
 
 /// The rank of tuples is a total order in which only equal tuples tie.
@@ -52,7 +63,8 @@ pub fn folds_give_longs()
 {}
 
 /// The value of an expression fits its type, on every row of the schema. Where no part is wider than
-/// a text and the literals are values, it is a value that a field can hold.
+/// a text and the literals are values, it is a value that a field can hold; and so columns make a
+/// tuple of their types.
 pub fn types_are_sound()
     ensures { TypesAreSound }
 {}
