@@ -1,4 +1,17 @@
+pub mod BagBridges
+pub mod BagLaws
+pub mod BagSplits
+pub mod ColumnLaws
 pub mod DecimalLemmas
+pub mod EqLemmas
+pub mod ExprEquations
+pub mod FoldLaws
+pub mod FoldLongs
 pub mod OrderLaws
+pub mod RankLaws
 pub mod SortLaws
+pub mod SoundLaws
+pub mod TextLemmas
 pub mod TupleLemmas
+pub mod TypeLaws
+pub mod ValueLemmas

@@ -5,9 +5,13 @@ pub mod Values
 pub mod Types
 pub mod Tuples
 pub mod Bags
+pub mod SameBags
+pub mod LawsOfBags
 pub mod Expressions
 pub mod ExprTypes
 pub mod Folds
+pub mod LawsOfFolds
 pub mod Records
+pub mod LawsOfTypes
 pub mod Hash
 pub mod Segments
