@@ -22,8 +22,9 @@ pub record SameBagIsEquivalence (X : Type 0) : Type 0 where
   pub back : (xs ys : List X) → SameBag xs ys → SameBag ys xs
   pub on : (xs ys zs : List X) → SameBag xs ys → SameBag ys zs → SameBag xs zs
 
--- Three ways to say that lists are the same bag agree: by order, by how often each tuple occurs, and by
--- exchanges of places, as std's sorts say it. Where the ordered lists are equal they are the same bag too.
+-- Four ways to say that lists of tuples are the same bag agree: one is the other in another order, each tuple
+-- occurs as often, one is the other after exchanges of places, as std's sorts say it, and they have one
+-- ordered list.
 pub record SameBagsAgree : Type 0 where
   pub counts : (xs ys : List Tuple) → SameBag xs ys ↔ IsSameBag xs ys
   pub exchanges : (xs ys : List Tuple) → SameBag xs ys ↔ IsPermutation xs ys

@@ -1,5 +1,6 @@
-use Rattle.std.specs.Prelude.{◌≡◌, Bool, true, ◌&&◌, IsTrue, Some, List, ◌++◌, map}
+use Rattle.std.specs.Prelude.{◌≡◌, ℕ, ◌≤◌, Bool, true, ◌&&◌, IsTrue, Some, List, ◌++◌, map, take, length}
 use Rattle.std.specs.List.{AllZip}
+use Rattle.std.specs.Str.{IsUtf8}
 use Rattle.flow_types.specs.declared.field_type.FieldType.{FieldType}
 use Rattle.flow_types.specs.declared.expr.Expr.{Expr, fold-Expr}
 use Rattle.flow_types.specs.declared.expr.Expr.TheOpen as open_expr
@@ -7,7 +8,7 @@ use Rattle.flow_types.specs.Values.{is_value}
 use Rattle.flow_types.specs.Types.{Fields, fits, fits_field}
 use Rattle.flow_types.specs.Tuples.{Tuple}
 use Rattle.flow_types.specs.Records.{IsTupleOf}
-use Rattle.flow_types.specs.Expressions.{val}
+use Rattle.flow_types.specs.Expressions.{cut, val}
 use Rattle.flow_types.specs.ExprTypes.{typing_of, type_of}
 
 -- The law of types: what has a type has a value of that type, on every row of the schema.
@@ -41,3 +42,10 @@ pub record TypesAreSound : Type 0 where
   pub values : (fields : Fields) (t : Tuple) (e : Expr) (f : FieldType) → IsTupleOf fields t → HasType fields e f → IsTrue (is_value (val t e))
   pub columns : (fields : Fields) (t : Tuple) (es : List Expr) (types : Fields) → IsTupleOf fields t → AllZip (HasType fields) es types → IsTupleOf types (map (val t) es)
   pub joined : (left right : Fields) (t u : Tuple) → IsTupleOf left t → IsTupleOf right u → IsTupleOf (left ++ right) (t ++ u)
+
+-- What `cut` leaves of a text is its longest prefix in UTF-8 of at most n bytes.
+pub record CutsAreLongest : Type 0 where
+  pub prefix : (n : ℕ) (s : List ℕ) → cut n s ≡ take (length (cut n s)) s
+  pub short : (n : ℕ) (s : List ℕ) → length (cut n s) ≤ n
+  pub text : (n : ℕ) (s : List ℕ) → IsUtf8 s → IsUtf8 (cut n s)
+  pub longest : (n k : ℕ) (s : List ℕ) → IsUtf8 s → k ≤ n → k ≤ length s → IsUtf8 (take k s) → k ≤ length (cut n s)

@@ -1,7 +1,7 @@
 use Rattle.std.specs.Prelude.{List, [], ◌∷◌}
 
 -- Two lists are the same bag where one is the other in another order. So said, the fact holds of lists of
--- any type, and is kept by each step over lists. Of tuples it is `IsSameBag`, as `SameBagTwice` states.
+-- any type, and is kept by each step over lists. Of tuples it is `IsSameBag`, by the law `SameBagsAgree`.
 pub data SameBag {X : Type 0} : List X → List X → Type 0 where
   -- no elements
   none : SameBag [] []

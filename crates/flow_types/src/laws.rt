@@ -1,7 +1,7 @@
 //! Laws of the definitions in `specs/`. Each function does nothing; its contract is the law.
 ghost use Rattle.flow_types.specs.LawsOfBags.{SameBagIsEquivalence, SameBagsAgree, StepsKeepBags, SameOfSameBags, RankIsAnOrder, BagsSplit, TestsTellEqual};
 ghost use Rattle.flow_types.specs.LawsOfFolds.{FoldsOfSameBags, FoldsSplit, PartsMerge, FoldsGiveLongs};
-ghost use Rattle.flow_types.specs.LawsOfTypes.{TypesAreSound};
+ghost use Rattle.flow_types.specs.LawsOfTypes.{TypesAreSound, CutsAreLongest};
 
 /// To be the same bag is an equivalence, on lists of any type.
 pub fn same_bag_is_equivalence<X>()
@@ -67,4 +67,9 @@ pub fn folds_give_longs()
 /// tuple of their types.
 pub fn types_are_sound()
     ensures { TypesAreSound }
+{}
+
+/// What is left of a text that is cut is its longest prefix in UTF-8 of at most so many bytes.
+pub fn cuts_are_longest()
+    ensures { CutsAreLongest }
 {}
