@@ -1,0 +1,12 @@
+use Rattle.std.specs.Prelude.{◌≡◌, ℕ, List, ◌++◌, drop, IsTrue}
+use Rattle.flow_types.specs.declared.field_type.FieldType.{FieldType}
+use Rattle.flow_types.specs.Values.{is_value}
+use Rattle.flow_types.specs.Types.{fits_field}
+use Rattle.flow_types.specs.Records.{value_form, first_value, taken}
+
+-- Bytes begin with a value of a field of this type: the value that they are read as fits the field, and
+-- its form stands in front of the bytes behind it.
+pub record BeginsWith (f : FieldType) (bytes : List ℕ) : Type 0 where
+  pub fitting : IsTrue (fits_field f (first_value f bytes))
+  pub value : IsTrue (is_value (first_value f bytes))
+  pub formed : bytes ≡ value_form (first_value f bytes) ++ drop (taken f bytes) bytes
