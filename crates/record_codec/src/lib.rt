@@ -6,6 +6,7 @@
 //! such bytes each field and the whole row are read as they were written.
 #![tactic(auto)]
 
+pub mod check;
 pub mod number;
 pub mod place;
 mod text;
