@@ -1,2 +1,4 @@
 pub mod TextLemmas
 pub mod PrefixLemmas
+pub mod RecordLemmas
+pub mod PlaceLemmas

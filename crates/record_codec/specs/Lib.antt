@@ -1,2 +1,3 @@
-pub mod Places
 pub mod Prefixes
+pub mod Places
+pub mod Laws

@@ -7,6 +7,7 @@
 #![tactic(auto)]
 
 pub mod check;
+pub mod laws;
 pub mod number;
 pub mod place;
 mod text;

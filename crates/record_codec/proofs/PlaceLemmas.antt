@@ -1,0 +1,57 @@
+-- Places of fields.
+use Rattle.std.proofs.Common.{◌≡◌, ℕ, zero, suc, ◌+◌, ◌-◌, ◌<◌, ◌≤◌, List, [], ◌∷◌, ◌++◌, length, take, drop, slice_index_or, refl, sym, ◌∙◌, ap, subst, arith, length-drop}
+use Rattle.std.specs.Int.{from_be_bytes, w16}
+use Rattle.std.proofs.lemmas.List.{take_more, drop_more, drop-drop}
+use Rattle.flow_types.specs.declared.value.Value.{Value}
+use Rattle.flow_types.specs.declared.field_type.FieldType.{FieldType}
+use Rattle.flow_types.specs.declared.field_type.FieldType.TheVariants as type
+use Rattle.flow_types.specs.Tuples.{Tuple, field}
+use Rattle.flow_types.specs.Types.{Fields}
+use Rattle.flow_types.specs.Records.{first_value, taken, tuple_of, IsRecord}
+use Rattle.record_codec.specs.Prefixes.{BeginsWith, StandsFrom}
+use Rattle.record_codec.specs.Places.{start_of, content}
+use Rattle.record_codec.proofs.PrefixLemmas.{record_begins, text_parts, IsTextForm}
+
+-- one field more
+pub start_more : (fs : Fields) (f : FieldType) (bytes : List ℕ) → start_of (fs ++ f ∷ []) bytes ≡ start_of fs bytes + taken f (drop (start_of fs bytes) bytes)
+start_more [] f bytes = omega arith
+start_more (g ∷ gs) f bytes =
+    let rest : List ℕ = drop (taken g bytes) bytes in
+    let n : ℕ = start_of gs rest in
+    let more : start_of (gs ++ f ∷ []) rest ≡ n + taken f (drop n rest) = start_more gs f rest in
+    let moved : taken f (drop n rest) ≡ taken f (drop (taken g bytes + n) bytes) = ap (taken f) (drop-drop n (taken g bytes) bytes) in
+    omega arith
+
+pub start_step : (fields : Fields) (seen : List ℕ) (i start end : ℕ) (f : FieldType) → i < length fields
+    → slice_index_or fields i f ≡ f → start ≡ start_of (take i fields) seen → StandsFrom f seen start end
+    → end ≡ start_of (take (i + 1) fields) seen
+start_step fields seen i start end f inside read same stands =
+    let front : Fields = take i fields in
+    let split : take (i + 1) fields ≡ front ++ f ∷ [] = take_more fields i f inside ∙ ap (λ (x : FieldType). front ++ x ∷ []) read in
+    stands.ends
+        ∙ ap (λ (n : ℕ). n + taken f (drop n seen)) same
+        ∙ sym (start_more front f seen)
+        ∙ ap (λ (fs : Fields). start_of fs seen) (sym split)
+
+-- the bytes from a place on begin with the field that stands there
+pub begins_at : (fields : Fields) (bytes : List ℕ) (i : ℕ) (f : FieldType) → i < length fields → slice_index_or fields i f ≡ f
+    → IsRecord (drop i fields) bytes → BeginsWith f bytes
+begins_at fields bytes i f inside read is =
+    record_begins f (drop (i + 1) fields) bytes
+        (subst (λ (fs : Fields). IsRecord fs bytes) (drop_more fields i f inside ∙ ap (λ (x : FieldType). x ∷ drop (i + 1) fields) read) is)
+
+-- the bytes of the first value are there
+pub begins_long : (f : FieldType) (bytes : List ℕ) → BeginsWith f bytes → taken f bytes ≤ length bytes
+begins_long type.Long bytes begins = omega (arith, ap length begins.formed)
+begins_long type.Bool bytes begins = omega (arith, ap length begins.formed)
+begins_long (type.Str bound) bytes begins = (text_parts bound bytes begins).long
+
+-- a field of the tuple that bytes are read as, by its place
+pub tuple_at : (fields : Fields) (bytes : List ℕ) (i : ℕ) (d : FieldType) → i < length fields
+    → field i (tuple_of fields bytes) ≡ first_value (slice_index_or fields i d) (drop (start_of (take i fields) bytes) bytes)
+tuple_at [] bytes i d inside = absurd (omega arith)
+tuple_at (f ∷ fs) bytes zero d inside = refl
+tuple_at (f ∷ fs) bytes (suc i) d inside =
+    let rest : List ℕ = drop (taken f bytes) bytes in
+    tuple_at fs rest i d (omega arith)
+        ∙ ap (first_value (slice_index_or fs i d)) (drop-drop (start_of (take i fs) rest) (taken f bytes) bytes)
