@@ -55,3 +55,22 @@ tuple_at (f ∷ fs) bytes (suc i) d inside =
     let rest : List ℕ = drop (taken f bytes) bytes in
     tuple_at fs rest i d (omega arith)
         ∙ ap (first_value (slice_index_or fs i d)) (drop-drop (start_of (take i fs) rest) (taken f bytes) bytes)
+
+-- the content of a text, by its place
+pub text_content : (bound start len : ℕ) (seen : List ℕ) (f : FieldType) → f ≡ type.Str bound
+    → len ≡ from_be_bytes w16 (take 2 (drop start seen)) → take len (drop (start + 2) seen) ≡ content (first_value f (drop start seen))
+text_content bound start len seen f is same =
+    ap (λ (n : ℕ). take n (drop (start + 2) seen)) same
+        ∙ ap (take (from_be_bytes w16 (take 2 (drop start seen)))) (sym (drop-drop 2 start seen))
+        ∙ ap (λ (g : FieldType). content (first_value g (drop start seen))) (sym is)
+
+-- a field's content, by its place
+pub field_content : (fields schema : Fields) (seen : List ℕ) (i start at len : ℕ) → fields ≡ schema → i < length schema
+    → start ≡ start_of (take i fields) seen
+    → take len (drop at seen) ≡ content (first_value (slice_index_or fields i type.Long) (drop start seen))
+    → take len (drop at seen) ≡ content (field i (tuple_of schema seen))
+field_content fields schema seen i start at len is inside same bytes =
+    bytes
+        ∙ ap (λ (n : ℕ). content (first_value (slice_index_or fields i type.Long) (drop n seen))) same
+        ∙ ap (λ (fs : Fields). content (first_value (slice_index_or fs i type.Long) (drop (start_of (take i fs) seen) seen))) is
+        ∙ ap content (sym (tuple_at schema seen i type.Long inside))

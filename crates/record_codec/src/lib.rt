@@ -7,6 +7,7 @@
 #![tactic(auto)]
 
 pub mod check;
+pub mod decode;
 pub mod laws;
 pub mod number;
 pub mod place;
