@@ -2,3 +2,5 @@ pub mod TextLemmas
 pub mod PrefixLemmas
 pub mod RecordLemmas
 pub mod PlaceLemmas
+pub mod DecodeLemmas
+pub mod EncodeLemmas

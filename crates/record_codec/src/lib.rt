@@ -8,6 +8,7 @@
 
 pub mod check;
 pub mod decode;
+pub mod encode;
 pub mod laws;
 pub mod number;
 pub mod place;
