@@ -1,4 +1,4 @@
-pub mod TextLemmas
+pub mod Utf8Lemmas
 pub mod PrefixLemmas
 pub mod RecordLemmas
 pub mod PlaceLemmas

@@ -29,22 +29,9 @@ start_step fields seen i start end f inside read same stands =
     let front : Fields = take i fields in
     let split : take (i + 1) fields ≡ front ++ f ∷ [] = take_more fields i f inside ∙ ap (λ (x : FieldType). front ++ x ∷ []) read in
     stands.ends
-        ∙ ap (λ (n : ℕ). n + taken f (drop n seen)) same
-        ∙ sym (start_more front f seen)
-        ∙ ap (λ (fs : Fields). start_of fs seen) (sym split)
-
--- the bytes from a place on begin with the field that stands there
-pub begins_at : (fields : Fields) (bytes : List ℕ) (i : ℕ) (f : FieldType) → i < length fields → slice_index_or fields i f ≡ f
-    → IsRecord (drop i fields) bytes → BeginsWith f bytes
-begins_at fields bytes i f inside read is =
-    record_begins f (drop (i + 1) fields) bytes
-        (subst (λ (fs : Fields). IsRecord fs bytes) (drop_more fields i f inside ∙ ap (λ (x : FieldType). x ∷ drop (i + 1) fields) read) is)
-
--- the bytes of the first value are there
-pub begins_long : (f : FieldType) (bytes : List ℕ) → BeginsWith f bytes → taken f bytes ≤ length bytes
-begins_long type.Long bytes begins = omega (arith, ap length begins.formed)
-begins_long type.Bool bytes begins = omega (arith, ap length begins.formed)
-begins_long (type.Str bound) bytes begins = (text_parts bound bytes begins).long
+    ∙ ap (λ (n : ℕ). n + taken f (drop n seen)) same
+    ∙ sym (start_more front f seen)
+    ∙ ap (λ (fs : Fields). start_of fs seen) (sym split)
 
 -- a field of the tuple that bytes are read as, by its place
 pub tuple_at : (fields : Fields) (bytes : List ℕ) (i : ℕ) (d : FieldType) → i < length fields
@@ -54,15 +41,15 @@ tuple_at (f ∷ fs) bytes zero d inside = refl
 tuple_at (f ∷ fs) bytes (suc i) d inside =
     let rest : List ℕ = drop (taken f bytes) bytes in
     tuple_at fs rest i d (omega arith)
-        ∙ ap (first_value (slice_index_or fs i d)) (drop-drop (start_of (take i fs) rest) (taken f bytes) bytes)
+    ∙ ap (first_value (slice_index_or fs i d)) (drop-drop (start_of (take i fs) rest) (taken f bytes) bytes)
 
 -- the content of a text, by its place
 pub text_content : (bound start len : ℕ) (seen : List ℕ) (f : FieldType) → f ≡ type.Str bound
     → len ≡ from_be_bytes w16 (take 2 (drop start seen)) → take len (drop (start + 2) seen) ≡ content (first_value f (drop start seen))
 text_content bound start len seen f is same =
     ap (λ (n : ℕ). take n (drop (start + 2) seen)) same
-        ∙ ap (take (from_be_bytes w16 (take 2 (drop start seen)))) (sym (drop-drop 2 start seen))
-        ∙ ap (λ (g : FieldType). content (first_value g (drop start seen))) (sym is)
+    ∙ ap (take (from_be_bytes w16 (take 2 (drop start seen)))) (sym (drop-drop 2 start seen))
+    ∙ ap (λ (g : FieldType). content (first_value g (drop start seen))) (sym is)
 
 -- a field's content, by its place
 pub field_content : (fields schema : Fields) (seen : List ℕ) (i start at len : ℕ) → fields ≡ schema → i < length schema
@@ -71,6 +58,6 @@ pub field_content : (fields schema : Fields) (seen : List ℕ) (i start at len :
     → take len (drop at seen) ≡ content (field i (tuple_of schema seen))
 field_content fields schema seen i start at len is inside same bytes =
     bytes
-        ∙ ap (λ (n : ℕ). content (first_value (slice_index_or fields i type.Long) (drop n seen))) same
-        ∙ ap (λ (fs : Fields). content (first_value (slice_index_or fs i type.Long) (drop (start_of (take i fs) seen) seen))) is
-        ∙ ap content (sym (tuple_at schema seen i type.Long inside))
+    ∙ ap (λ (n : ℕ). content (first_value (slice_index_or fields i type.Long) (drop n seen))) same
+    ∙ ap (λ (fs : Fields). content (first_value (slice_index_or fs i type.Long) (drop (start_of (take i fs) seen) seen))) is
+    ∙ ap content (sym (tuple_at schema seen i type.Long inside))

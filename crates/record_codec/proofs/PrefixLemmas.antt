@@ -21,22 +21,9 @@ use Rattle.flow_types.specs.Types.{Fields, fits_field, fits}
 use Rattle.flow_types.specs.Records.{value_form, form, first_value, taken, tuple_of, bool_byte, IsRecord, IsRecordOf, IsTupleOf}
 use Rattle.record_codec.specs.Prefixes.{BeginsWith, StandsFrom}
 
--- a number that 64 bits hold
-pub is_long_fits : (n : ℤ) → FitsSigned w64 n → IsTrue (is_long n)
-is_long_fits n fit = subst (λ (z : ℤ). int_eq z n ≡ true) (sym (int_wrap_fits w64 n fit)) (int_eq_equiv.refl n)
-
-pub long_begins : (bytes : List ℕ) (n : ℤ) → FitsSigned w64 n
-    → n ≡ cast_signed w64 (from_be_bytes w64 (take 8 bytes)) → to_be_bytes w64 (cast_unsigned w64 n) ≡ take 8 bytes
-    → BeginsWith type.Long bytes
-long_begins bytes n fit same written = record {
-  fitting = refl;
-  value = subst (λ (z : ℤ). IsTrue (is_long z)) same (is_long_fits n fit);
-  formed = sym (take-append-drop 8 bytes)
-      ∙ ap (λ (xs : List ℕ). xs ++ drop 8 bytes) (sym written ∙ ap (λ (z : ℤ). to_be_bytes w64 (cast_unsigned w64 z)) same)
-}
-
-pub long_enough : (bytes : List ℕ) → length bytes < 8 → ¬ BeginsWith type.Long bytes
-long_enough bytes short begins = omega (arith, ap length begins.formed)
+-- no Long stands in fewer bytes
+pub no_long : (bytes : List ℕ) → length bytes < 8 → ¬ BeginsWith type.Long bytes
+no_long bytes short begins = omega (arith, ap length begins.formed)
 
 -- a text's length is the one that its form names
 pub text_length : (bytes s rest : List ℕ) → IsTrue (is_text s) → bytes ≡ (to_be_bytes w16 (length s) ++ s) ++ rest
@@ -72,7 +59,7 @@ text_begins bound len bytes limit same written short inside text =
       formed = sym (take-append-drop 2 bytes)
           ∙ ap (λ (xs : List ℕ). take 2 bytes ++ xs) (sym (take-append-drop n (drop 2 bytes)) ∙ ap (λ (xs : List ℕ). s ++ xs) (drop-drop n 2 bytes))
           ∙ ap (λ (xs : List ℕ). xs ++ (s ++ drop (2 + n) bytes)) (sym written ∙ ap (λ (m : ℕ). to_be_bytes w16 m) (same ∙ sym long))
-          ∙ sym (append_assoc (to_be_bytes w16 (length s)) s (drop (2 + n) bytes))
+          ∙ sym (append_assoc (to_be_bytes w16 (length s)) s (drop (2 + n) bytes));
     }
 
 pub text_parts : (bound : ℕ) (bytes : List ℕ) → BeginsWith (type.Str bound) bytes → IsTextForm bound bytes
@@ -84,7 +71,7 @@ text_parts bound bytes begins =
     record {
       bounded = omega (arith, leb-true (length s) bound begins.fitting);
       long = omega (arith, ap length begins.formed, length-append s rest);
-      utf8 = IsUtf8-from_is_utf8 s (and_parts (nat_le (length s) text_limit) (is_utf8 s) begins.value).1
+      utf8 = IsUtf8-from_is_utf8 s (and_parts (nat_le (length s) text_limit) (is_utf8 s) begins.value).1;
     }
 
 -- where the form of the value that bytes are read as stands in front of others, they are those behind it
@@ -109,7 +96,7 @@ record_begins f fs bytes is =
     record {
       fitting = (and_parts (fits_field f v) (fits fs others) is.tuple.fitting).0;
       value = value;
-      formed = is.formed ∙ ap (λ (xs : List ℕ). value_form v ++ xs) (sym (behind_first f bytes (form others) value is.formed))
+      formed = is.formed ∙ ap (λ (xs : List ℕ). value_form v ++ xs) (sym (behind_first f bytes (form others) value is.formed));
     }
 
 -- behind its first field the rest of a record is the record of the other fields
@@ -118,27 +105,29 @@ pub record_behind : (f : FieldType) (fs : Fields) (bytes : List ℕ) → BeginsW
 record_behind f fs bytes begins =
     let v : Value = first_value f bytes in
     let rest : List ℕ = drop (taken f bytes) bytes in
-    let others : Tuple = tuple_of fs rest in
-    ((λ whole. record {
-      tuple = record {
-        fitting = (and_parts (fits_field f v) (fits fs others) whole.tuple.fitting).1;
-        values = (and_parts (is_value v) (list_all is_value others) whole.tuple.values).1
-      };
-      formed = append_cancel_left (value_form v) rest (form others) (sym begins.formed ∙ whole.formed)
-    }),
-    (λ back. record {
-      tuple = record {
-        fitting = and_from (fits_field f v) (fits fs others) begins.fitting back.tuple.fitting;
-        values = and_from (is_value v) (list_all is_value others) begins.value back.tuple.values
-      };
-      formed = begins.formed ∙ ap (λ (xs : List ℕ). value_form v ++ xs) back.formed
-    }))
+    let others : Tuple = tuple_of fs rest in (
+      (λ whole. record {
+        tuple = record {
+          fitting = (and_parts (fits_field f v) (fits fs others) whole.tuple.fitting).1;
+          values = (and_parts (is_value v) (list_all is_value others) whole.tuple.values).1;
+        };
+        formed = append_cancel_left (value_form v) rest (form others) (sym begins.formed ∙ whole.formed);
+      }),
+      (λ back. record {
+        tuple = record {
+          fitting = and_from (fits_field f v) (fits fs others) begins.fitting back.tuple.fitting;
+          values = and_from (is_value v) (list_all is_value others) begins.value back.tuple.values;
+        };
+        formed = begins.formed ∙ ap (λ (xs : List ℕ). value_form v ++ xs) back.formed;
+      }),
+    )
 
 -- the record of no fields is no bytes
 pub record_of_none : (bytes : List ℕ) → IsRecord [] bytes ↔ (length bytes ≡ 0)
-record_of_none bytes =
-    ((λ is. ap length is.formed),
-     (λ none. record { tuple = record { fitting = refl; values = refl }; formed = nil_from_length bytes none }))
+record_of_none bytes = (
+  (λ is. ap length is.formed),
+  (λ none. record { tuple = record { fitting = refl; values = refl }; formed = nil_from_length bytes none }),
+)
 
 -- one field more of a record was passed over
 pub field_passed : (fields : Fields) (seen : List ℕ) (i start end : ℕ) (f : FieldType) → i < length fields
@@ -148,10 +137,10 @@ field_passed fields seen i start end f inside read stands =
     let rest : Fields = drop (i + 1) fields in
     let split : drop i fields ≡ f ∷ rest = drop_more fields i f inside ∙ ap (λ (x : FieldType). x ∷ rest) read in
     let moved : drop (taken f (drop start seen)) (drop start seen) ≡ drop end seen =
-        drop-drop (taken f (drop start seen)) start seen ∙ ap (λ (n : ℕ). drop n seen) (sym stands.ends) in
+    drop-drop (taken f (drop start seen)) start seen ∙ ap (λ (n : ℕ). drop n seen) (sym stands.ends) in
     subst (λ (fs : Fields). IsRecord fs (drop start seen) ↔ IsRecord rest (drop end seen)) (sym split)
-        (subst (λ (bytes : List ℕ). IsRecord (f ∷ rest) (drop start seen) ↔ IsRecord rest bytes) moved
-            (record_behind f rest (drop start seen) stands.begins))
+    (subst (λ (bytes : List ℕ). IsRecord (f ∷ rest) (drop start seen) ↔ IsRecord rest bytes) moved
+    (record_behind f rest (drop start seen) stands.begins))
 
 -- behind the last field a record ends
 pub fields_done : (fields : Fields) (seen : List ℕ) (i start count : ℕ) → length fields ≤ i → start ≤ length seen
@@ -161,9 +150,10 @@ fields_done fields seen i start count past inside counted same =
     let left : List ℕ = drop start seen in
     let long : length left ≡ length seen - start = length-drop start seen in
     let ends : IsRecord fields seen ↔ IsRecord [] left =
-        subst (λ (fs : Fields). IsRecord fields seen ↔ IsRecord fs left) (drop_all i fields past) same in
-    ((λ yes. ends.1 ((record_of_none left).1 (omega (arith, eqb-true start count yes)))),
-     (λ is. eq-eqb start count (omega (arith, (record_of_none left).0 (ends.0 is)))))
+    subst (λ (fs : Fields). IsRecord fields seen ↔ IsRecord fs left) (drop_all i fields past) same in (
+      (λ yes. ends.1 ((record_of_none left).1 (omega (arith, eqb-true start count yes)))),
+      (λ is. eq-eqb start count (omega (arith, (record_of_none left).0 (ends.0 is)))),
+    )
 
 -- a text stands where its length is within the bound and its bytes are UTF-8
 pub text_stands : (bound start len : ℕ) (seen : List ℕ) (answer : Bool) → bound ≤ text_limit → start + 2 + len ≤ length seen
@@ -176,7 +166,7 @@ text_stands bound start len seen answer limit inside same written short passes t
     record {
       begins = text_begins bound len bytes limit same written short (omega (arith, length-drop start seen)) text;
       ends = omega (arith, same);
-      inside = inside
+      inside = inside;
     }
 
 -- no text stands where the bytes aren't UTF-8
@@ -186,6 +176,6 @@ pub no_text : (bound start len : ℕ) (seen : List ℕ) (answer : Bool) → len 
 no_text bound start len seen answer same fails tells begins =
     let bytes : List ℕ = drop start seen in
     let text : IsUtf8 (take len (drop 2 bytes)) =
-        subst (λ (n : ℕ). IsUtf8 (take n (drop 2 bytes))) (sym same) (text_parts bound bytes begins).utf8 in
+    subst (λ (n : ℕ). IsUtf8 (take n (drop 2 bytes))) (sym same) (text_parts bound bytes begins).utf8 in
     let passes : answer ≡ true = tells.1 (subst IsUtf8 (sym (text_at start len seen)) text) in
     cc

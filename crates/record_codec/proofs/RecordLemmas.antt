@@ -50,8 +50,8 @@ is_within_widest fields t is = form_widest fields t is.fitting
 pub record_small : (fields : Fields) (bytes : List ℕ) → IsTrue (is_schema fields) → IsRecord fields bytes → length bytes ≤ record_limit
 record_small fields bytes schema is =
     let narrow : widest fields ≤ record_limit =
-        leb-true (widest fields) record_limit (and_parts (nat_le 1 (length fields) && nat_le (length fields) field_limit && list_all is_bounded fields)
-            (nat_le (widest fields) record_limit) schema).1 in
+    leb-true (widest fields) record_limit (and_parts (nat_le 1 (length fields) && nat_le (length fields) field_limit && list_all is_bounded fields)
+    (nat_le (widest fields) record_limit) schema).1 in
     let long : length bytes ≡ size (tuple_of fields bytes) = ap length is.formed in
     omega (arith, form_widest fields (tuple_of fields bytes) is.tuple.fitting)
 
@@ -86,9 +86,10 @@ first_read (type.Str bound) (value.Long n) rest fit is = cc
 first_read (type.Str bound) (value.Bool b) rest fit is = cc
 first_read (type.Str bound) (value.Str s) rest fit is =
     let form : List ℕ = to_be_bytes w16 (length s) ++ s in
-    let long : length form ≡ 2 + length s = omega arith in
-    (ap (λ (n : ℕ). value.Str (take n (s ++ rest))) (length_read s is) ∙ ap (λ (xs : List ℕ). value.Str xs) (take_at s rest (length s) refl),
-     ap (λ (n : ℕ). drop (2 + n) (form ++ rest)) (length_read s is) ∙ drop_at form rest (2 + length s) long)
+    let long : length form ≡ 2 + length s = omega arith in (
+      ap (λ (n : ℕ). value.Str (take n (s ++ rest))) (length_read s is) ∙ ap (λ (xs : List ℕ). value.Str xs) (take_at s rest (length s) refl),
+      ap (λ (n : ℕ). drop (2 + n) (form ++ rest)) (length_read s is) ∙ drop_at form rest (2 + length s) long,
+    )
 
 pub form_read : (fields : Fields) (t : Tuple) → IsTrue (fits fields t) → IsTrue (list_all is_value t) → tuple_of fields (form t) ≡ t
 form_read [] [] fit is = refl
@@ -98,9 +99,9 @@ form_read (f ∷ fs) (v ∷ vs) fit is =
     let fitting : (fits_field f v ≡ true) × (fits fs vs ≡ true) = and_parts (fits_field f v) (fits fs vs) fit in
     let values : (is_value v ≡ true) × (list_all is_value vs ≡ true) = and_parts (is_value v) (list_all is_value vs) is in
     let first : (first_value f (value_form v ++ form vs) ≡ v) × (drop (taken f (value_form v ++ form vs)) (value_form v ++ form vs) ≡ form vs) =
-        first_read f v (form vs) fitting.0 values.0 in
+    first_read f v (form vs) fitting.0 values.0 in
     ap (λ (x : Value). x ∷ tuple_of fs (drop (taken f (value_form v ++ form vs)) (value_form v ++ form vs))) first.0
-        ∙ ap (λ (xs : Tuple). v ∷ xs) (ap (tuple_of fs) first.1 ∙ form_read fs vs fitting.1 values.1)
+    ∙ ap (λ (xs : Tuple). v ∷ xs) (ap (tuple_of fs) first.1 ∙ form_read fs vs fitting.1 values.1)
 
 pub reads_as_written : ReadsAsWritten
 reads_as_written fields t bytes is = ap (tuple_of fields) is.formed ∙ form_read fields t is.tuple.fitting is.tuple.values

@@ -6,7 +6,7 @@ ghost use Rattle.flow_types.specs.Records.{IsRecord};
 ghost use Rattle.record_codec.specs.Prefixes.{BeginsWith, StandsFrom};
 
 use crate::number::{length_at, long_at};
-use crate::text::is_text;
+use crate::utf8::is_utf8;
 use flow_types::field_type::FieldType;
 use flow_types::schema::Schema;
 use flow_types::span::Span;
@@ -94,7 +94,7 @@ fn text_end<X: Span>(row: &X, bound: u16, start: usize) -> Option<usize>
         return None;
     }
     let end = start + 2 + usize::from(len);
-    if !is_text(row, start + 2, end) {
+    if !is_utf8(row, start + 2, end) {
         return None;
     }
     Some(end)

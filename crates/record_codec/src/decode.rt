@@ -90,12 +90,7 @@ fn text_at<X: Span>(alloc: Global, row: &X, start: usize, len: usize) -> Result<
 }
 
 /// The bytes from `start` to `end`, copied piece by piece.
-fn copy_of<X: Span>(
-    alloc: Global,
-    row: &X,
-    start: usize,
-    end: usize,
-) -> Result<Vec<u8>, Memory>
+fn copy_of<X: Span>(alloc: Global, row: &X, start: usize, end: usize) -> Result<Vec<u8>, Memory>
     requires order { start ≤ end }
     requires inside { end ≤ length (X.seen row.now) }
     ensures { IfOk result (λ v. v.items ≡ take (end - start) (drop start (X.seen row.now))) }

@@ -12,4 +12,6 @@ pub mod encode;
 pub mod laws;
 pub mod number;
 pub mod place;
-mod text;
+#[cfg(test)]
+mod tests;
+mod utf8;

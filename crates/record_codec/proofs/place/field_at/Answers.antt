@@ -13,5 +13,5 @@ first_place-requires-clause-small g c =
 pub returns-clause-bytes : goal.returns-clause-bytes
 returns-clause-bytes g c =
     field_content c.fields-fields.result.now c.args.schema.now (g.X.Span.seen c.args.row.now) c.args.i c.field_start-start.result
-        c.first_place.result.start c.first_place.result.len c.fields-fields.ensures.value c.requires.exists c.field_start-start.ensures.start
-        c.first_place.ensures.bytes
+    c.first_place.result.start c.first_place.result.len c.fields-fields.ensures.value c.requires.exists c.field_start-start.ensures.start
+    c.first_place.ensures.bytes

@@ -16,5 +16,5 @@ loop-k-preserved g c =
           inside read c.loop-k.invariant.place c.next_start-start.ensures;
       inside = c.next_start-start.ensures.inside;
       rest = (field_passed c.args.fields.now (g.X.Span.seen c.args.row.now) c.loop-k.k c.loop-k.start c.next_start-start.result f
-          inside read c.next_start-start.ensures).0 c.loop-k.invariant.rest
+          inside read c.next_start-start.ensures).0 c.loop-k.invariant.rest;
     }

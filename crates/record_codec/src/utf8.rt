@@ -6,7 +6,7 @@ use std::str;
 
 /// Whether the bytes from `start` to `end` are UTF-8. Each piece is tested where it lies; a character
 /// that the end of a piece cuts is put together from up to four bytes.
-pub(crate) fn is_text<X: Span>(row: &X, start: usize, end: usize) -> bool
+pub(crate) fn is_utf8<X: Span>(row: &X, start: usize, end: usize) -> bool
     requires order { start ≤ end }
     requires inside { end ≤ length (X.seen row.now) }
     ensures { IsTrue result ↔ IsUtf8 (take (end - start) (drop start (X.seen row.now))) }

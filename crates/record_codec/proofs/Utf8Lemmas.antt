@@ -14,15 +14,16 @@ pub front_more : (front seen : List ℕ) (at i y : ℕ) → i < length front →
 front_more front seen at i y short inside same is =
     let there : i < length (drop at seen) = omega (arith, length-drop at seen) in
     take_more_set front i y short
-        ∙ ap (λ (xs : List ℕ). xs ++ y ∷ []) same
-        ∙ ap (λ (z : ℕ). take i (drop at seen) ++ z ∷ []) (is ∙ sym (get_or-drop at seen i 0))
-        ∙ sym (take_more (drop at seen) i 0 there)
+    ∙ ap (λ (xs : List ℕ). xs ++ y ∷ []) same
+    ∙ ap (λ (z : ℕ). take i (drop at seen) ++ z ∷ []) (is ∙ sym (get_or-drop at seen i 0))
+    ∙ sym (take_more (drop at seen) i 0 there)
 
 -- behind a front that is UTF-8 the rest is UTF-8 exactly where the whole is
 pub utf8_behind : (bs : List ℕ) (n : ℕ) → n ≤ length bs → IsUtf8 (take n bs) → IsUtf8 bs ↔ IsUtf8 (drop n bs)
-utf8_behind bs n short front =
-    ((λ whole. IsUtf8-drop bs n whole (IsCharBoundary-from_take bs n whole short front)),
-     (λ back. subst IsUtf8 (take-append-drop n bs) (IsUtf8-append (take n bs) (drop n bs) front back)))
+utf8_behind bs n short front = (
+  (λ whole. IsUtf8-drop bs n whole (IsCharBoundary-from_take bs n whole short front)),
+  (λ back. subst IsUtf8 (take-append-drop n bs) (IsUtf8-append (take n bs) (drop n bs) front back)),
+)
 
 -- the same of bytes from a place to an end
 pub text_behind : (seen : List ℕ) (at n end : ℕ) → at + n ≤ end → end ≤ length seen → IsUtf8 (take n (drop at seen))
@@ -34,11 +35,11 @@ text_behind seen at n end order inside front =
     let taken : take n (take (end - at) rest) ≡ take n rest = take-take n (end - at) rest (omega arith) in
     let split : end - at ≡ n + (end - (at + n)) = omega arith in
     let behind : drop n (take (end - at) rest) ≡ take (end - (at + n)) (drop (at + n) seen) =
-        ap (λ (m : ℕ). drop n (take m rest)) split
-            ∙ drop-take n (end - (at + n)) rest
-            ∙ ap (take (end - (at + n))) (drop-drop n at seen) in
+    ap (λ (m : ℕ). drop n (take m rest)) split
+    ∙ drop-take n (end - (at + n)) rest
+    ∙ ap (take (end - (at + n))) (drop-drop n at seen) in
     subst (λ (bs : List ℕ). IsUtf8 (take (end - at) rest) ↔ IsUtf8 bs) behind
-        (utf8_behind (take (end - at) rest) n (omega arith) (subst IsUtf8 (sym taken) front))
+    (utf8_behind (take (end - at) rest) n (omega arith) (subst IsUtf8 (sym taken) front))
 
 -- a front of one to four bytes is UTF-8
 abbrev pub HasChar : List ℕ → Type 0
@@ -52,27 +53,31 @@ first_char (c ∷ cs) bs ok same some =
     let long : length (encode_utf8 c) ≡ n = length-encode c in
     let bounds : (1 ≤ n) × (n ≤ 4) = len_utf8_bounds c in
     let front : take n bs ≡ encode_utf8 c =
-        ap (take n) (sym same) ∙ take_at (encode_utf8 c) (encode_utf8_all cs) n long in
-    (n, omega arith, omega arith,
-        omega (arith, ap length same, length-append (encode_utf8 c) (encode_utf8_all cs)),
-        subst IsUtf8 (sym front) (IsUtf8-encode c (and_parts (scalar c) (all_scalars cs) ok).0))
+    ap (take n) (sym same) ∙ take_at (encode_utf8 c) (encode_utf8_all cs) n long in (
+      n,
+      omega arith,
+      omega arith,
+      omega (arith, ap length same, length-append (encode_utf8 c) (encode_utf8_all cs)),
+      subst IsUtf8 (sym front) (IsUtf8-encode c (and_parts (scalar c) (all_scalars cs) ok).0),
+    )
 
--- no character begins within four bytes, so none begins
-pub no_char : (seen : List ℕ) (at end : ℕ) (front : List ℕ) → at < end → end ≤ length seen
-    → front ≡ take (min (end - at) 4) (drop at seen)
-    → ((n : ℕ) → 0 < n → n ≤ length front → ¬ IsUtf8 (take n front))
+-- no character begins within four bytes that were put together, so none begins
+pub no_char : (seen : List ℕ) (at end done count : ℕ) (front : List ℕ) → at < end → end ≤ length seen
+    → done ≡ count → count ≡ min (end - at) 4 → take done front ≡ take done (drop at seen)
+    → ((n : ℕ) → 0 < n → n ≤ length (take count front) → ¬ IsUtf8 (take n (take count front)))
     → ¬ IsUtf8 (take (end - at) (drop at seen))
-no_char seen at end front order inside same none whole =
+no_char seen at end done count front order inside over counted same none whole =
     let rest : List ℕ = drop at seen in
     let there : end - at ≤ length rest = omega (arith, length-drop at seen) in
     let long : length (take (end - at) rest) ≡ end - at = length-take-le (end - at) rest there in
     let first : HasChar (take (end - at) rest) =
-        first_char whole.0 (take (end - at) rest) whole.1.0 whole.1.1 (omega arith) in
+    first_char whole.0 (take (end - at) rest) whole.1.0 whole.1.1 (omega arith) in
     let n : ℕ = first.0 in
-    let short : n ≤ min (end - at) 4 = omega arith in
-    let count : length front ≡ min (end - at) 4 = ap length same ∙ length-take-le (min (end - at) 4) rest (omega arith) in
-    let taken : take n front ≡ take n (take (end - at) rest) =
-        ap (take n) same
-            ∙ take-take n (min (end - at) 4) rest short
-            ∙ sym (take-take n (end - at) rest (omega arith)) in
+    let gathered : take count front ≡ take count rest =
+    subst (λ (k : ℕ). take k front ≡ take k rest) over same in
+    let full : length (take count front) ≡ count = ap length gathered ∙ length-take-le count rest (omega arith) in
+    let taken : take n (take count front) ≡ take n (take (end - at) rest) =
+    ap (take n) gathered
+    ∙ take-take n count rest (omega arith)
+    ∙ sym (take-take n (end - at) rest (omega arith)) in
     none n first.1 (omega arith) (subst IsUtf8 (sym taken) first.4)

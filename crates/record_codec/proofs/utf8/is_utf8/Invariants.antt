@@ -1,5 +1,5 @@
 use Rattle.std.proofs.Common.{ℕ, ◌-◌, ◌≤◌, ◌↔◌, List, take, drop, IsUtf8}
-use Rattle.record_codec.proofs.text.is_text.Given as goal
+use Rattle.record_codec.proofs.utf8.is_utf8.Given as goal
 
 pub record Passed (seen : List ℕ) (start at end : ℕ) : Type 0 where
   pub order : at ≤ end

@@ -1,5 +1,5 @@
 use Rattle.std.proofs.Common.{◌≡◌, ℕ, List, length, take, drop}
-use Rattle.record_codec.proofs.text.whole_at_seam.Given as goal
+use Rattle.record_codec.proofs.utf8.whole_at_seam.Given as goal
 
 -- the first i of four bytes were put together
 pub record PutTogether (front : List ℕ) (i : ℕ) (rest : List ℕ) : Type 0 where
