@@ -54,15 +54,39 @@ fn row(alloc: Global, number: i64, flag: Option<bool>, word: &str) -> Result<Row
     Ok(Row::of(values))
 }
 
-/// The row that bytes are the record of.
-fn read<X: Span>(alloc: Global, bytes: &X, schema: &Schema) -> Result<Option<Row>, Memory> {
+/// Whether bytes are the record of a row and are read as it.
+fn is_read<X: Span>(alloc: Global, bytes: &X, schema: &Schema, row: &Row) -> Result<bool, Memory> {
     if !check_bytes(bytes, schema) {
+        return Ok(false);
+    }
+    let back = decode(alloc, bytes, schema)?;
+    Ok(compare_rows(&back, row) == Ordering::Equal)
+}
+
+/// The record of a row, where it is written into so many bytes; it has to be read as the row, also in
+/// pieces.
+fn record(
+    alloc: Global,
+    fields: &[FieldType],
+    row: &Row,
+    room: usize,
+) -> Result<Option<Vec<u8>>, Fail> {
+    let schema = schema(alloc, fields)?;
+    let mut bytes = vec![in alloc; 7_u8; room]?;
+    let Some(len) = encode_into(&mut bytes, &schema, row) else {
         return Ok(None);
+    };
+    bytes.truncate(len);
+    for size in [1, 2, 3, 4_080, 20_000] {
+        let pieces = Pieces {
+            bytes: bytes.as_slice(),
+            size,
+        };
+        if !is_read(alloc, &pieces, &schema, row)? {
+            return Ok(None);
+        }
     }
-    match decode(alloc, bytes, schema) {
-        Ok(row) => Ok(Some(row)),
-        Err(error) => Err(error),
-    }
+    Ok(Some(bytes))
 }
 
 /// Where a field lies, and the number there where eight bytes lie there.
@@ -81,98 +105,77 @@ fn find<X: Span>(bytes: &X, schema: &Schema, i: usize) -> Option<(Place, Option<
 // high one first, one byte, and a text behind its length in two bytes.
 #[test]
 fn rows_become_records(rt: HostRuntime) -> Result<(), Fail> {
-    let records: [(i64, Option<bool>, &str, &[u8]); 4] = [
-        (2, None, "bob", b"\0\0\0\0\0\0\0\x02\0\x03bob"),
+    let (long, flag, text) = (FieldType::Long, FieldType::Bool, FieldType::Str(3));
+    let bob = row(rt.alloc(), 2, None, "bob")?;
+    let bytes = record(rt.alloc(), &[long, text], &bob, 13)?.ok_or("not written")?;
+    assert_eq!(rt; bytes.as_slice(), b"\0\0\0\0\0\0\0\x02\0\x03bob".as_slice());
+    assert_eq!(rt; 13_u32.to_be_bytes().as_slice(), b"\0\0\0\x0d".as_slice());
+    let records = [
         (
             -2,
-            Some(true),
+            true,
             "",
-            b"\xff\xff\xff\xff\xff\xff\xff\xfe\x01\0\0",
+            b"\xff\xff\xff\xff\xff\xff\xff\xfe\x01\0\0".as_slice(),
         ),
-        (i64::MIN, None, "a\0b", b"\x80\0\0\0\0\0\0\0\0\x03a\0b"),
+        (i64::MIN, true, "a\0b", b"\x80\0\0\0\0\0\0\0\x01\0\x03a\0b"),
         (
             258,
-            Some(false),
+            false,
             "\u{20ac}",
             b"\0\0\0\0\0\0\x01\x02\0\0\x03\xe2\x82\xac",
         ),
     ];
-    let two = schema(rt.alloc(), &[FieldType::Long, FieldType::Str(3)])?;
-    let three = schema(
-        rt.alloc(),
-        &[FieldType::Long, FieldType::Bool, FieldType::Str(3)],
-    )?;
-    for (number, flag, word, want) in records {
-        let fields = if flag.is_none() { &two } else { &three };
-        let row = row(rt.alloc(), number, flag, word)?;
-        let mut out = [7; 16];
-        assert_eq!(rt;
-            encode_into(&mut out, fields, &row),
-            Some(want.len()),
-            "{number}"
-        );
-        assert_eq!(rt; &out[..want.len()], want, "{number}");
-        assert!(rt; out[want.len()..].iter().all(|&byte| byte == 7), "{number}");
-        for size in [1, 2, 3, 16] {
-            let bytes = Pieces { bytes: want, size };
-            let back = read(rt.alloc(), &bytes, fields)?.ok_or("no record")?;
-            assert_eq!(rt;
-                compare_rows(&back, &row),
-                Ordering::Equal,
-                "{number} by {size}"
-            );
-        }
+    for (number, truth, word, want) in records {
+        let row = row(rt.alloc(), number, Some(truth), word)?;
+        let bytes = record(rt.alloc(), &[long, flag, text], &row, 16)?.ok_or("not written")?;
+        assert_eq!(rt; bytes.as_slice(), want, "{number}");
     }
-    assert_eq!(rt; 13_u32.to_be_bytes().as_slice(), b"\0\0\0\x0d".as_slice());
     Ok(())
 }
 
 #[test]
 fn rows_that_do_not_fit_are_not_written(rt: HostRuntime) -> Result<(), Fail> {
     let (long, flag, text) = (FieldType::Long, FieldType::Bool, FieldType::Str(3));
-    let lists: [(&[FieldType], usize, Option<usize>); 8] = [
-        (&[long, flag, text], 14, Some(14)),
-        (&[long, flag, text], 13, None),
-        (&[long, flag, FieldType::Str(2)], 14, None),
-        (&[long, flag], 14, None),
-        (&[long, flag, text, flag], 14, None),
-        (&[flag, long, text], 14, None),
-        (&[long, text, flag], 14, None),
-        (&[long, flag, long], 14, None),
+    let lists: [(&[FieldType], usize, bool); 8] = [
+        (&[long, flag, text], 14, true),
+        (&[long, flag, text], 13, false),
+        (&[long, flag, FieldType::Str(2)], 14, false),
+        (&[long, flag], 14, false),
+        (&[long, flag, text, flag], 14, false),
+        (&[flag, long, text], 14, false),
+        (&[long, text, flag], 14, false),
+        (&[long, flag, long], 14, false),
     ];
     let bob = row(rt.alloc(), 2, Some(true), "bob")?;
     for (fields, room, want) in lists {
-        let fields = schema(rt.alloc(), fields)?;
-        let mut out = [7; 14];
-        let written = encode_into(&mut out[..room], &fields, &bob);
-        assert_eq!(rt; written, want, "{fields:?} in {room}");
-        let kept = out.iter().all(|&byte| byte == 7);
-        assert_eq!(rt; kept, want.is_none(), "{fields:?} in {room}");
+        let bytes = record(rt.alloc(), fields, &bob, room)?;
+        assert_eq!(rt; bytes.is_some(), want, "{fields:?} in {room}");
     }
     Ok(())
 }
 
-#[test]
-fn the_widest_text_has_a_record(rt: HostRuntime) -> Result<(), Fail> {
-    let mut word = String::new(rt.alloc());
-    for _ in 0..16_382 {
+/// A row of a text of so many bytes.
+fn long_row(alloc: Global, bytes: u16) -> Result<Row, Fail> {
+    let mut word = String::new(alloc);
+    for _ in 0..bytes {
         word.push('x')?;
     }
-    let mut values = Vec::new(rt.alloc());
+    let mut values = Vec::new(alloc);
     values.push(Value::Str(Text::of(word).ok_or("no text")?))?;
-    let row = Row::of(values);
-    let mut out = vec![in rt.alloc(); 0_u8; 16_384]?;
-    let narrow = schema(rt.alloc(), &[FieldType::Str(16_381)])?;
-    assert_eq!(rt; encode_into(&mut out, &narrow, &row), None);
-    let fields = schema(rt.alloc(), &[FieldType::Str(16_382)])?;
-    assert_eq!(rt; encode_into(&mut out, &fields, &row), Some(16_384));
-    assert_eq!(rt; &out[..3], b"\x3f\xfex".as_slice());
-    let bytes = Pieces {
-        bytes: out.as_slice(),
-        size: 4_080,
-    };
-    let back = read(rt.alloc(), &bytes, &fields)?.ok_or("no record")?;
-    assert_eq!(rt; compare_rows(&back, &row), Ordering::Equal);
+    Ok(Row::of(values))
+}
+
+#[test]
+fn the_widest_text_has_a_record(rt: HostRuntime) -> Result<(), Fail> {
+    let widest = long_row(rt.alloc(), 16_382)?;
+    for (bound, room, want) in [
+        (16_382, 16_384, true),
+        (16_381, 16_384, false),
+        (16_382, 16_383, false),
+    ] {
+        let bytes = record(rt.alloc(), &[FieldType::Str(bound)], &widest, room)?;
+        assert_eq!(rt; bytes.is_some(), want, "{bound} in {room}");
+    }
     Ok(())
 }
 
