@@ -18,7 +18,7 @@ use Rattle.flow_types.specs.Limits.{text_limit, field_limit, record_limit}
 use Rattle.flow_types.specs.Values.{is_value, is_long, is_text}
 use Rattle.flow_types.specs.Types.{Fields, fits_field, fits, width, widest, is_schema, is_bounded}
 use Rattle.flow_types.specs.Records.{value_form, form, size, first_value, taken, tuple_of, bool_byte, IsRecord, IsRecordOf, IsTupleOf, ReadsAsWritten}
-use Rattle.record_codec.specs.Laws.{HasOneTuple, IsWithinWidest}
+use Rattle.record_codec.specs.Laws.{HasOneTuple, IsRecordOfRead, IsWithinWidest}
 
 -- a value's form takes as many bytes as its field is wide, at most
 pub form_width : (f : FieldType) (v : Value) → IsTrue (fits_field f v) → length (value_form v) ≤ width f
@@ -109,3 +109,7 @@ reads_as_written fields t bytes is = ap (tuple_of fields) is.formed ∙ form_rea
 pub has_one_tuple : HasOneTuple
 has_one_tuple fields t u left right same =
     sym (form_read fields t left.fitting left.values) ∙ ap (tuple_of fields) same ∙ form_read fields u right.fitting right.values
+
+pub is_record_of_read : IsRecordOfRead
+is_record_of_read fields t bytes is =
+    subst (λ (u : Tuple). IsRecordOf fields u bytes) (sym (reads_as_written fields t bytes is)) is

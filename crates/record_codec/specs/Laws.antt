@@ -1,7 +1,13 @@
-use Rattle.std.specs.Prelude.{◌≡◌, ◌≤◌}
+use Rattle.std.specs.Prelude.{◌≡◌, ◌≤◌, ℕ, List}
 use Rattle.flow_types.specs.Types.{Fields, widest}
 use Rattle.flow_types.specs.Tuples.{Tuple}
-use Rattle.flow_types.specs.Records.{form, size, IsTupleOf}
+use Rattle.flow_types.specs.Records.{form, size, IsTupleOf, IsRecordOf, IsRecord}
+
+-- Laws that follow from the forms of records.
+
+-- The record of any tuple of a schema is the record of the tuple that it is read as.
+abbrev pub IsRecordOfRead : Type 0
+IsRecordOfRead = (fields : Fields) (t : Tuple) (bytes : List ℕ) → IsRecordOf fields t bytes → IsRecord fields bytes
 
 -- Two tuples of a schema with one record are one tuple.
 abbrev pub HasOneTuple : Type 0

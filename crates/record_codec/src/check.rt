@@ -12,8 +12,8 @@ use flow_types::schema::Schema;
 use flow_types::span::Span;
 
 /// Whether bytes are the record of a row of the schema: its fields' forms one after the other, and
-/// nothing behind them. Each byte is looked at once, and none is copied but those of a character that
-/// lies in two pieces.
+/// nothing behind them. Each byte is read once, but for those of a character that the end of a piece
+/// cuts, and no memory is taken.
 pub fn check_bytes<X: Span>(row: &X, schema: &Schema) -> bool
     ensures { IsTrue result ↔ IsRecord schema.now (X.seen row.now) }
 {
@@ -49,8 +49,7 @@ fn field_end<X: Span>(row: &X, field: FieldType, start: usize) -> Option<usize>
     }
 }
 
-/// The place behind a Long. The eight bytes are read, since of a byte that nobody read a span doesn't
-/// say that it is one.
+/// The place behind a Long. A span says only of what was read that it is bytes, so the eight are read.
 fn long_end<X: Span>(row: &X, start: usize) -> Option<usize>
     requires { start ≤ length (X.seen row.now) }
     ensures found { IfSome result (StandsFrom FieldType.Long (X.seen row.now) start) }

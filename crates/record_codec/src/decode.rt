@@ -15,8 +15,8 @@ use flow_types::text::Text;
 use flow_types::value::Value;
 use std::alloc::Global;
 
-/// The row of a record: one allocation for the list of values, and one for each text, whose bytes are
-/// copied once.
+/// The row of a record. The cost is one allocation for the list of values and one for each text, whose
+/// bytes are copied piece by piece and are once more tested to be UTF-8.
 pub fn decode<X: Span>(alloc: Global, row: &X, schema: &Schema) -> Result<Row, Memory>
     requires { IsRecord schema.now (X.seen row.now) }
     ensures { IfOk result (λ r. r ≡ tuple_of schema.now (X.seen row.now)) }

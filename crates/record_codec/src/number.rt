@@ -22,6 +22,7 @@ fn eight_bytes<X: Span>(row: &X, start: usize) -> [u8; 8]
     if let Some(bytes) = row.piece(start).first_chunk::<8>() {
         return *bytes;
     }
+    // So no place below overflows.
     let end = row.len();
     prove!(8 <= end && start <= end - 8);
     [
@@ -54,6 +55,7 @@ fn two_bytes<X: Span>(row: &X, start: usize) -> [u8; 2]
     if let Some(bytes) = row.piece(start).first_chunk::<2>() {
         return *bytes;
     }
+    // So no place below overflows.
     let end = row.len();
     prove!(2 <= end && start <= end - 2);
     [row.at(start), row.at(start + 1)]
