@@ -4,3 +4,4 @@ pub mod RecordLemmas
 pub mod PlaceLemmas
 pub mod DecodeLemmas
 pub mod EncodeLemmas
+pub mod NumberLemmas

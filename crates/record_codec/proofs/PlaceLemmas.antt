@@ -1,16 +1,14 @@
 -- Places of fields.
-use Rattle.std.proofs.Common.{◌≡◌, ℕ, zero, suc, ◌+◌, ◌-◌, ◌<◌, ◌≤◌, List, [], ◌∷◌, ◌++◌, length, take, drop, slice_index_or, refl, sym, ◌∙◌, ap, subst, arith, length-drop}
+use Rattle.std.proofs.Common.{◌≡◌, ℕ, zero, suc, ◌+◌, ◌<◌, List, [], ◌∷◌, ◌++◌, length, take, drop, slice_index_or, refl, sym, ◌∙◌, ap, arith}
 use Rattle.std.specs.Int.{from_be_bytes, w16}
-use Rattle.std.proofs.lemmas.List.{take_more, drop_more, drop-drop}
-use Rattle.flow_types.specs.declared.value.Value.{Value}
+use Rattle.std.proofs.lemmas.List.{take_more, drop-drop}
 use Rattle.flow_types.specs.declared.field_type.FieldType.{FieldType}
 use Rattle.flow_types.specs.declared.field_type.FieldType.TheVariants as type
-use Rattle.flow_types.specs.Tuples.{Tuple, field}
+use Rattle.flow_types.specs.Tuples.{field}
 use Rattle.flow_types.specs.Types.{Fields}
-use Rattle.flow_types.specs.Records.{first_value, taken, tuple_of, IsRecord}
-use Rattle.record_codec.specs.Prefixes.{BeginsWith, StandsFrom}
+use Rattle.flow_types.specs.Records.{first_value, taken, tuple_of}
+use Rattle.record_codec.specs.Prefixes.{StandsFrom}
 use Rattle.record_codec.specs.Places.{start_of, content}
-use Rattle.record_codec.proofs.PrefixLemmas.{record_begins, text_parts, IsTextForm}
 
 -- one field more
 pub start_more : (fs : Fields) (f : FieldType) (bytes : List ℕ) → start_of (fs ++ f ∷ []) bytes ≡ start_of fs bytes + taken f (drop (start_of fs bytes) bytes)

@@ -1,29 +1,32 @@
 -- Values at the front of bytes.
-use Rattle.std.proofs.Common.{◌≡◌, ℕ, zero, suc, ◌+◌, ◌-◌, ◌<◌, ◌≤◌, ◌^◌, Bool, true, false, not, ◌==◌, nat_le, ◌&&◌, List, [], ◌∷◌, ◌++◌, length, take, drop, slice_index, slice_index_or, refl, sym, ◌∙◌, ap, subst, arith, length-take, length-append, length-drop, append_assoc, ◌↔◌, IsUtf8, IsTrue, ℤ, FitsSigned}
-use Rattle.std.specs.Int.{to_be_bytes, from_be_bytes, cast_signed, cast_unsigned, w16, w64, int_wrap}
+use Rattle.std.proofs.Common.{◌≡◌, ℕ, ◌+◌, ◌-◌, ◌<◌, ◌≤◌, Bool, true, false, ◌==◌, nat_le, List, [], ◌∷◌, ◌++◌, length, take, drop, slice_index_or, refl, sym, ◌∙◌, ap, subst, arith, length-append, length-drop, append_assoc, ◌↔◌, IsUtf8, IsTrue}
+use Rattle.std.specs.Int.{to_be_bytes, from_be_bytes, w16}
 use Rattle.std.specs.Str.{is_utf8}
 use Rattle.std.specs.List.{list_all}
 use Rattle.std.proofs.lemmas.Bool.{and_parts, and_from, le-leb, leb-true, eqb-true, eq-eqb}
-use Rattle.std.specs.Ordering.{int_eq}
-use Rattle.std.proofs.lemmas.Cmp.{int_eq_equiv}
-use Rattle.std.proofs.lemmas.Int.{int_wrap_fits}
 use Rattle.std.proofs.lemmas.Nat.{from_be_bytes-to_be_bytes_2}
 use Rattle.std.proofs.lemmas.List.{take-append-drop, drop_at, append_cancel_left, length-take-le, drop-drop, drop_more, drop_all, nil_from_length}
 use Rattle.std.proofs.lemmas.Str.{is_utf8-from_IsUtf8, IsUtf8-from_is_utf8}
 use Rattle.flow_types.specs.declared.value.Value.{Value}
-use Rattle.flow_types.specs.declared.value.Value.TheVariants as value
 use Rattle.flow_types.specs.Tuples.{Tuple}
 use Rattle.flow_types.specs.declared.field_type.FieldType.{FieldType}
 use Rattle.flow_types.specs.declared.field_type.FieldType.TheVariants as type
 use Rattle.flow_types.specs.Limits.{text_limit}
-use Rattle.flow_types.specs.Values.{is_value, is_long, is_text}
+use Rattle.flow_types.specs.Values.{is_value, is_text}
 use Rattle.flow_types.specs.Types.{Fields, fits_field, fits}
-use Rattle.flow_types.specs.Records.{value_form, form, first_value, taken, tuple_of, bool_byte, IsRecord, IsRecordOf, IsTupleOf}
+use Rattle.flow_types.specs.Records.{value_form, form, first_value, taken, tuple_of, IsRecord}
 use Rattle.record_codec.specs.Prefixes.{BeginsWith, StandsFrom}
 
 -- no Long stands in fewer bytes
 pub no_long : (bytes : List ℕ) → length bytes < 8 → ¬ BeginsWith type.Long bytes
 no_long bytes short begins = omega (arith, ap length begins.formed)
+
+-- eight bytes stand where a Long does
+pub long_inside : (f : FieldType) (start : ℕ) (seen : List ℕ) → f ≡ type.Long → start ≤ length seen → BeginsWith f (drop start seen)
+    → start + 8 ≤ length seen
+long_inside f start seen is inside begins =
+    let long : BeginsWith type.Long (drop start seen) = subst (λ (g : FieldType). BeginsWith g (drop start seen)) is begins in
+    omega (arith, ap length long.formed, length-drop start seen)
 
 -- a text's length is the one that its form names
 pub text_length : (bytes s rest : List ℕ) → IsTrue (is_text s) → bytes ≡ (to_be_bytes w16 (length s) ++ s) ++ rest

@@ -1,5 +1,5 @@
 -- Laws of records.
-use Rattle.std.proofs.Common.{◌≡◌, ℕ, zero, suc, ◌+◌, ◌-◌, ◌<◌, ◌≤◌, ◌^◌, Bool, true, false, not, ◌==◌, nat_le, ◌&&◌, List, [], ◌∷◌, ◌++◌, length, take, drop, slice_index, refl, sym, ◌∙◌, ap, subst, arith, length-append, length-drop, append_assoc, IsTrue, ℤ, pos, negsuc, FitsSigned, to_z-of_z}
+use Rattle.std.proofs.Common.{◌≡◌, ℕ, ◌+◌, ◌<◌, ◌≤◌, ◌^◌, true, false, nat_le, ◌&&◌, List, [], ◌∷◌, ◌++◌, length, take, drop, refl, sym, ◌∙◌, ap, subst, arith, length-append, IsTrue, ℤ, pos, negsuc, FitsSigned, to_z-of_z}
 use Rattle.std.proofs.lemmas.List.Sums.{sum_by-cons}
 use Rattle.std.proofs.lemmas.Bool.Decides.{Decides-int_eq}
 use Rattle.std.proofs.lemmas.Int.{SFits-int_wrap}
@@ -17,7 +17,7 @@ use Rattle.flow_types.specs.Tuples.{Tuple}
 use Rattle.flow_types.specs.Limits.{text_limit, field_limit, record_limit}
 use Rattle.flow_types.specs.Values.{is_value, is_long, is_text}
 use Rattle.flow_types.specs.Types.{Fields, fits_field, fits, width, widest, is_schema, is_bounded}
-use Rattle.flow_types.specs.Records.{value_form, form, size, first_value, taken, tuple_of, bool_byte, IsRecord, IsRecordOf, IsTupleOf, ReadsAsWritten}
+use Rattle.flow_types.specs.Records.{value_form, form, size, first_value, taken, tuple_of, IsRecord, IsRecordOf, ReadsAsWritten}
 use Rattle.record_codec.specs.Laws.{HasOneTuple, IsRecordOfRead, IsWithinWidest}
 
 -- a value's form takes as many bytes as its field is wide, at most

@@ -1,4 +1,4 @@
-use Rattle.std.proofs.Common.{arith, ◌≡◌, ℕ, List, ◌∙◌, sym, ap}
+use Rattle.std.proofs.Common.{arith, ℕ, ◌∙◌, ap}
 use Rattle.std.specs.Int.{w16, to_be_bytes}
 use Rattle.record_codec.proofs.PrefixLemmas.{text_stands, no_text}
 use Rattle.record_codec.proofs.check.text_end.Goals as goal

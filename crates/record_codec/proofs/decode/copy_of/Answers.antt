@@ -1,4 +1,4 @@
-use Rattle.std.proofs.Common.{arith, refl, ◌≡◌, ◌++◌, take}
+use Rattle.std.proofs.Common.{arith, refl, take}
 use Rattle.std.proofs.lemmas.Slice.{pushed}
 use Rattle.record_codec.proofs.DecodeLemmas.{copied_more}
 use Rattle.record_codec.proofs.decode.copy_of.Goals as goal

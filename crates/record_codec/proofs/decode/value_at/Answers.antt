@@ -1,6 +1,11 @@
 use Rattle.std.proofs.Common.{◌∙◌}
 use Rattle.record_codec.proofs.DecodeLemmas.{text_utf8, text_value}
+use Rattle.record_codec.proofs.PrefixLemmas.{long_inside}
 use Rattle.record_codec.proofs.decode.value_at.Goals as goal
+
+pub long_at-requires : goal.long_at-requires
+long_at-requires g c =
+    long_inside c.args.field c.args.start (g.X.Span.seen c.args.row.now) c.in-Long.is c.requires.inside c.requires.begins
 
 pub text_at-requires-clause-utf8 : goal.text_at-requires-clause-utf8
 text_at-requires-clause-utf8 g c =

@@ -1,4 +1,4 @@
-use Rattle.std.proofs.Common.{arith, ℕ, List, ◌≡◌, ◌-◌, take, drop, min, length, length-set, ◌∙◌, ap, sym}
+use Rattle.std.proofs.Common.{arith, ◌≡◌, length, length-set, ◌∙◌}
 use Rattle.record_codec.proofs.Utf8Lemmas.{front_more, no_char}
 use Rattle.record_codec.proofs.utf8.whole_at_seam.Goals as goal
 
