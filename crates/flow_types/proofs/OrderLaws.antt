@@ -60,7 +60,7 @@ value_cmp_exact (value.Str a) (value.Bool b) e = cc
 value_cmp_exact (value.Str a) (value.Str b) e = ap value.Str (exact_bytes a b e)
 
 -- the two parts of a chain of orders that ties
-then_ties : (o p : Ordering) → ordering_then o p ≡ Equal → (o ≡ Equal) × (p ≡ Equal)
+pub then_ties : (o p : Ordering) → ordering_then o p ≡ Equal → (o ≡ Equal) × (p ≡ Equal)
 then_ties Less p e = cc
 then_ties Equal p e = (refl, e)
 then_ties Greater p e = cc

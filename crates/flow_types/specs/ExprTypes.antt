@@ -1,4 +1,4 @@
-use Rattle.std.specs.Prelude.{ℕ, ◌+◌, Bool, true, false, ◌&&◌, nat_le, nat_lt, max, min, List, length, slice_get, Option, Some, None, option_and_then}
+use Rattle.std.specs.Prelude.{ℕ, ◌+◌, Bool, true, ◌&&◌, nat_le, nat_lt, max, min, length, slice_get, Option, Some, None, option_and_then}
 use Rattle.flow_types.specs.Limits.{text_limit}
 use Rattle.flow_types.specs.declared.value.Value.{Value}
 use Rattle.flow_types.specs.declared.value.Value.TheVariants as value

@@ -5,6 +5,8 @@ pub mod Values
 pub mod Types
 pub mod Tuples
 pub mod Bags
+pub mod SameBags
+pub mod LawsOfBags
 pub mod Expressions
 pub mod ExprTypes
 pub mod Folds

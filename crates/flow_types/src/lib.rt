@@ -10,6 +10,7 @@ pub mod agg;
 pub mod decimal;
 pub mod expr;
 pub mod field_type;
+pub mod laws;
 pub mod name;
 pub mod order_item;
 pub mod row;
