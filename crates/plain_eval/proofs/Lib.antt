@@ -1,2 +1,4 @@
 pub mod Numbers
 pub mod CutLemmas
+pub mod KeyLemmas
+pub mod Steps

@@ -7,5 +7,12 @@
 
 pub mod arithmetic;
 pub mod cut;
+pub mod folds;
+pub mod groups;
+pub mod join;
+pub mod keys;
+pub mod lists;
+pub mod rank;
+pub mod row_ops;
 pub mod value_of;
 pub mod values;

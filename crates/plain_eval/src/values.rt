@@ -1,13 +1,14 @@
 ghost use Rattle.std.specs.Prelude.{◌≡◌, ◌≤◌, IfOk, length, slice_index_or, string_bytes};
 ghost use Rattle.flow_types.specs.declared.value.Value.TheVariants as value;
 ghost use Rattle.flow_types.specs.Limits.{text_limit};
-ghost use Rattle.flow_types.specs.Values.{long_of, flag_of, bytes_of};
+ghost use Rattle.flow_types.specs.Values.{long_of, flag_of, bytes_of, value_cmp};
 ghost use Rattle.flow_types.specs.Tuples.{field};
 
 use flow_outside::failure::Memory;
 use flow_types::text::Text;
-use flow_types::value::Value;
+use flow_types::value::{Value, compare};
 use std::alloc::Global;
+use std::cmp::Ordering;
 
 /// The number of a Long; 0 of another kind.
 pub fn long_of(value: &Value) -> i64
@@ -60,6 +61,15 @@ pub fn field_or<'a>(tuple: &'a [Value], number: u16, missing: &'a Value) -> &'a 
     } else {
         missing
     }
+}
+
+/// The order of a field, by its number from 0, and a value; the field is the Long 0 where the tuple
+/// ends before it.
+pub fn compare_field(tuple: &[Value], number: u16, value: &Value) -> Ordering
+    ensures { result ≡ value_cmp (field number tuple.now) value.now }
+{
+    let zero = Value::Long(0);
+    compare(field_or(tuple, number, &zero), value)
 }
 
 /// A copy of a field, by its number from 0; the Long 0 where the tuple ends before it.
