@@ -13,6 +13,7 @@ use std::alloc::Global;
 
 /// What a join says of two rows: the fields by which they meet, and the columns over the left row
 /// followed by the right.
+#[derive(Drop)]
 pub struct Meeting<'a> {
     pub left_key: &'a [u16],
     pub right_key: &'a [u16],

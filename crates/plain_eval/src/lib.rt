@@ -6,13 +6,19 @@
 #![tactic(auto)]
 
 pub mod arithmetic;
+pub mod body;
 pub mod cut;
+pub mod env;
+pub mod eval;
 pub mod folds;
 pub mod groups;
+pub mod held;
+pub mod iterate;
 pub mod join;
 pub mod keys;
 pub mod lists;
 pub mod rank;
 pub mod row_ops;
+pub mod solutions;
 pub mod value_of;
 pub mod values;
