@@ -49,7 +49,12 @@ module _ (inputs : Env) (held : Solution) where
       take-body k nodes (env ++ made ∷ []) (omega (arith, length_push env made)) ∙ take-append-le k env (made ∷ []) h
 
   -- what was there before a superstep is there after it
-  pub take-superstep : (nodes : List Node) (env : Env) (n : ℕ) (rows : Tuples) → take (length env) (superstep inputs nodes held env n rows) ≡ env
+  take-superstep : (nodes : List Node) (env : Env) (n : ℕ) (rows : Tuples) → take (length env) (superstep inputs nodes held env n rows) ≡ env
   take-superstep nodes env n rows =
       let made : Made = record { number = n; rows = rows } in
       take-body (length env) (nodes_of n nodes) (env ++ made ∷ []) (omega (arith, length_push env made)) ∙ take_at env (made ∷ []) (length env) refl
+
+  -- what is kept of a superstep is what was there before it
+  pub kept-superstep : (nodes : List Node) (env : Env) (n : ℕ) (rows : Tuples) (made after : Env) (kept : ℕ) → kept ≡ length env → made ≡ superstep inputs nodes held env n rows → after ≡ take kept made → after ≡ env
+  kept-superstep nodes env n rows made after kept long step rest =
+      rest ∙ ap (λ k. take k made) long ∙ ap (take (length env)) step ∙ take-superstep nodes env n rows
