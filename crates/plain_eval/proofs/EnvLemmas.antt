@@ -1,12 +1,12 @@
 -- Rows that are looked up from the end, and what a superstep leaves of what was there before.
-use Rattle.std.proofs.Common.{◌≡◌, ℕ, ◌+◌, ◌≤◌, Bool, true, false, ◌||◌, cond, eqb, List, [], ◌∷◌, ◌++◌, length, take, fold, refl, sym, ap, ◌∙◌, subst, arith}
+use Rattle.std.proofs.Common.{◌≡◌, ℕ, ◌≤◌, Bool, true, false, ◌||◌, cond, eqb, List, [], ◌∷◌, ◌++◌, length, take, fold, refl, ap, ◌∙◌, arith}
 use Rattle.std.specs.List.{list_any}
 use Rattle.std.proofs.lemmas.List.{take-append-le, take_at, length_push}
 use Rattle.flow_model.specs.declared.made.Made.{Made}
 use Rattle.flow_model.specs.declared.plan.Node.{Node}
 use Rattle.flow_model.specs.Env.{Tuples}
 use Rattle.flow_model.specs.Solutions.{Solution}
-use Rattle.flow_model.specs.Algebra.{Env, rows_at, and_rows, plain_rows, body_step, superstep, nodes_of}
+use Rattle.flow_model.specs.Algebra.{Env, rows_at, plain_rows, body_step, superstep, nodes_of}
 
 -- the rows under a number; other rows where nothing is
 abbrev pub rows_or : Env → ℕ → Tuples → Tuples

@@ -1,5 +1,5 @@
 -- One superstep of an iteration, as the code takes it.
-use Rattle.std.proofs.Common.{◌≡◌, ℕ, suc, ◌+◌, Bool, true, false, not, List, [], refl, sym, ap, ◌∙◌, arith}
+use Rattle.std.proofs.Common.{◌≡◌, ℕ, suc, Bool, true, false, not, List, refl, sym, ap, ◌∙◌}
 use Rattle.std.specs.Prelude.{Option}
 use Rattle.flow_types.specs.declared.order_item.OrderItem.{OrderItem}
 use Rattle.flow_model.specs.declared.op.MergeRule.{MergeRule}

@@ -1,10 +1,8 @@
 -- Whether a tuple has a key, field by field.
-use Rattle.std.proofs.Common.{◌≡◌, ◌≢◌, ℕ, ◌+◌, ◌<◌, Bool, true, false, List, [], ◌∷◌, length, get_or, drop, refl, sym, ap, ◌∙◌, subst, arith}
+use Rattle.std.proofs.Common.{◌≡◌, ◌≢◌, ℕ, true, false, List, [], ◌∷◌, length, refl, arith}
 use Rattle.std.specs.Ordering.{is_eq, is_ne, ordering_then}
 use Rattle.std.specs.declared.cmp.Ordering.{Ordering}
 use Rattle.std.specs.declared.cmp.Ordering.TheVariants.{Less, Equal, Greater}
-use Rattle.std.proofs.lemmas.List.{at_drop_more, at_drop_all}
-use Rattle.flow_types.specs.declared.value.Value.{Value}
 use Rattle.flow_types.specs.Values.{value_cmp}
 use Rattle.flow_types.specs.Tuples.{Tuple, field, key_of, tuple_eq}
 use Rattle.flow_model.specs.Rows.{has_key}

@@ -1,11 +1,11 @@
 -- Quotients in 64 bits.
-use Rattle.std.proofs.Common.{◌≡◌, ℕ, zero, suc, ◌+◌, ◌-◌, ◌≤◌, ◌<◌, ◌/◌, ◌^◌, ℤ, pos, negsuc, ap, sym, ◌∙◌, arith, w64, FitsSigned, to_z, of_z, Bool, true, false, cond, refl}
+use Rattle.std.proofs.Common.{◌≡◌, ℕ, zero, suc, ◌≤◌, ◌<◌, ◌/◌, ◌^◌, ℤ, pos, negsuc, ap, sym, ◌∙◌, arith, w64, FitsSigned, to_z, of_z, false, cond, refl}
 use Rattle.std.proofs.Math.Nat.{div-le_self}
 use Rattle.std.proofs.lemmas.Int.{of_z-to_z, to_z-of_z}
 use Rattle.std.specs.Ordering.{int_eq}
 use Rattle.std.proofs.lemmas.Bool.Decides.{nat_tests}
 use Rattle.std.specs.Prelude.{unsigned_abs, int_div, neg_ℤ}
-use Rattle.std.specs.Int.{int_wrap, cast_signed, cast_unsigned}
+use Rattle.std.specs.Int.{int_wrap}
 use Rattle.flow_types.specs.Expressions.{wrap, div}
 
 -- what is left of a number in 64 bits is its bits' number

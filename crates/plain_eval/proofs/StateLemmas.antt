@@ -1,5 +1,5 @@
 -- The last state of an iteration, superstep by superstep.
-use Rattle.std.proofs.Common.{◌≡◌, ℕ, zero, suc, ◌+◌, Bool, true, false, List, [], ◌∷◌, refl, sym, ap, ◌∙◌, arith}
+use Rattle.std.proofs.Common.{◌≡◌, ℕ, zero, suc, Bool, true, false, List, [], refl, ap, ◌∙◌}
 use Rattle.flow_model.specs.States.{states, last_state}
 
 module _ {S : Type 0} (goes_on : S → Bool) (next : S → S) where

@@ -1,2 +1,2 @@
 pub mod Iterations
-pub mod Pairs
+pub mod Parts

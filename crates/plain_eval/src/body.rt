@@ -1,7 +1,7 @@
 ghost use Rattle.std.specs.Prelude.{◌≡◌, IfOk};
 ghost use Rattle.std.specs.List.{flat_map};
 ghost use Rattle.flow_model.specs.Algebra.{rows_at, source_numbers, given, plain_rows, superstep};
-ghost use Rattle.plain_eval.specs.Pairs.{pair_rows};
+ghost use Rattle.plain_eval.specs.Parts.{grouped_rows, joined_rows, cogrouped_rows};
 
 use crate::env::{input_at, push_made, rows_at};
 use crate::groups::{cogroup_rows, distinct_rows, group_rows, top_rows};
@@ -38,36 +38,10 @@ pub fn plain_rows(
         Op::FlatMap { input, rows } => flat_map_rows(alloc, rows.as_slice(), rows_at(made, *input)),
         Op::Union { inputs } => union_rows(alloc, made, inputs.as_slice()),
         Op::Distinct { input } => distinct_rows(alloc, rows_at(made, *input)),
-        Op::Group {
-            input,
-            key,
-            aggs,
-            ..
-        } => {
-            group_rows(
-                alloc,
-                key.as_slice(),
-                aggs.as_slice(),
-                rows_at(made, *input),
-            )
-        }
-        Op::Top {
-            input,
-            key,
-            order,
-            count,
-        } => {
-            let count = *count as usize;
-            top_rows(
-                alloc,
-                key.as_slice(),
-                order.as_slice(),
-                count,
-                rows_at(made, *input),
-            )
-        }
-        Op::Join { .. } => pair_rows(alloc, made, &node.op),
-        Op::Cogroup { .. } => pair_rows(alloc, made, &node.op),
+        Op::Group { .. } => grouped_rows(alloc, made, &node.op),
+        Op::Top { .. } => grouped_rows(alloc, made, &node.op),
+        Op::Join { .. } => joined_rows(alloc, made, &node.op),
+        Op::Cogroup { .. } => cogrouped_rows(alloc, made, &node.op),
         Op::Bulk { .. } => Ok(Vec::new(alloc)),
         Op::Delta { .. } => Ok(Vec::new(alloc)),
         Op::Probe {
@@ -75,20 +49,44 @@ pub fn plain_rows(
             key,
             columns,
         } => {
-            probe_rows(
-                alloc,
-                held,
-                key.as_slice(),
-                columns.as_slice(),
-                rows_at(made, *input),
-            )
+            let rows = rows_at(made, *input);
+            probe_rows(alloc, held, key.as_slice(), columns.as_slice(), rows)
         }
     }
 }
 
-/// The rows of a join or a cogroup; none of another op.
-fn pair_rows(alloc: Global, made: &[Made], op: &Op) -> Result<Vec<Row>, Memory>
-    ensures { IfOk result (λ rows. rows.items ≡ pair_rows made.now op.now) }
+/// The rows of a group or a top; none of another op.
+fn grouped_rows(alloc: Global, made: &[Made], op: &Op) -> Result<Vec<Row>, Memory>
+    ensures { IfOk result (λ rows. rows.items ≡ grouped_rows made.now op.now) }
+{
+    match op {
+        Op::Group {
+            input,
+            key,
+            aggs,
+            ..
+        } => group_rows(
+            alloc,
+            key.as_slice(),
+            aggs.as_slice(),
+            rows_at(made, *input),
+        ),
+        Op::Top {
+            input,
+            key,
+            order,
+            count,
+        } => {
+            let (rows, count) = (rows_at(made, *input), *count as usize);
+            top_rows(alloc, key.as_slice(), order.as_slice(), count, rows)
+        }
+        _ => Ok(Vec::new(alloc)),
+    }
+}
+
+/// The rows of a join; none of another op.
+fn joined_rows(alloc: Global, made: &[Made], op: &Op) -> Result<Vec<Row>, Memory>
+    ensures { IfOk result (λ rows. rows.items ≡ joined_rows made.now op.now) }
 {
     match op {
         Op::Join {
@@ -117,6 +115,15 @@ fn pair_rows(alloc: Global, made: &[Made], op: &Op) -> Result<Vec<Row>, Memory>
                 right,
             )
         }
+        _ => Ok(Vec::new(alloc)),
+    }
+}
+
+/// The rows of a cogroup; none of another op.
+fn cogrouped_rows(alloc: Global, made: &[Made], op: &Op) -> Result<Vec<Row>, Memory>
+    ensures { IfOk result (λ rows. rows.items ≡ cogrouped_rows made.now op.now) }
+{
+    match op {
         Op::Cogroup {
             left,
             right,
@@ -124,14 +131,15 @@ fn pair_rows(alloc: Global, made: &[Made], op: &Op) -> Result<Vec<Row>, Memory>
             right_key,
             left_aggs,
             right_aggs,
-        } => {
-            let (left, right) = (rows_at(made, *left), rows_at(made, *right));
-            let (left_key, right_key) = (left_key.as_slice(), right_key.as_slice());
-            let (left_aggs, right_aggs) = (left_aggs.as_slice(), right_aggs.as_slice());
-            cogroup_rows(
-                alloc, left_key, right_key, left_aggs, right_aggs, left, right,
-            )
-        }
+        } => cogroup_rows(
+            alloc,
+            left_key.as_slice(),
+            right_key.as_slice(),
+            left_aggs.as_slice(),
+            right_aggs.as_slice(),
+            rows_at(made, *left),
+            rows_at(made, *right),
+        ),
         _ => Ok(Vec::new(alloc)),
     }
 }

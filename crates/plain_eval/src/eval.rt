@@ -1,5 +1,6 @@
 ghost use Rattle.std.specs.Prelude.{◌≡◌, IfOk};
 ghost use Rattle.flow_model.specs.Algebra.{source_numbers, given, node_rows, eval};
+ghost use Rattle.plain_eval.specs.Iterations.{bulk_node_rows, delta_node_rows};
 
 use crate::body::plain_rows;
 use crate::env::{push_made, take_rows};
@@ -50,6 +51,28 @@ fn node_rows(
     ensures made { IfOk result (λ _. made.new.items ≡ made.old.items) }
 {
     match &node.op {
+        Op::Bulk { .. } => bulk_node_rows(alloc, nodes, inputs, made, node),
+        Op::Delta { .. } => delta_node_rows(alloc, nodes, inputs, made, node),
+        _ => {
+            let nothing = Held::nothing(alloc);
+            plain_rows(alloc, nodes, inputs, &nothing, made.as_slice(), node)
+        }
+    }
+}
+
+/// The rows of a node that is a bulk iteration; none of another.
+fn bulk_node_rows(
+    alloc: Global,
+    nodes: &[Node],
+    inputs: &[Rows],
+    made: &mut Vec<Made>,
+    node: &Node,
+) -> Result<Vec<Row>, Memory>
+    ensures rows { IfOk result
+        (λ rows. rows.items ≡ bulk_node_rows (given (source_numbers nodes.now) inputs.now) nodes.now made.old.items node.now.number node.now.op) }
+    ensures made { IfOk result (λ _. made.new.items ≡ made.old.items) }
+{
+    match &node.op {
         Op::Bulk {
             init,
             max,
@@ -65,6 +88,23 @@ fn node_rows(
             };
             bulk_rows(alloc, nodes, inputs, made, node.number, bulk)
         }
+        _ => Ok(Vec::new(alloc)),
+    }
+}
+
+/// The rows of a node that is a delta iteration; none of another.
+fn delta_node_rows(
+    alloc: Global,
+    nodes: &[Node],
+    inputs: &[Rows],
+    made: &mut Vec<Made>,
+    node: &Node,
+) -> Result<Vec<Row>, Memory>
+    ensures rows { IfOk result
+        (λ rows. rows.items ≡ delta_node_rows (given (source_numbers nodes.now) inputs.now) nodes.now made.old.items node.now.number node.now.op) }
+    ensures made { IfOk result (λ _. made.new.items ≡ made.old.items) }
+{
+    match &node.op {
         Op::Delta {
             solution,
             workset,
@@ -88,9 +128,6 @@ fn node_rows(
             };
             delta_rows(alloc, nodes, inputs, made, node.number, &delta)
         }
-        _ => {
-            let nothing = Held::nothing(alloc);
-            plain_rows(alloc, nodes, inputs, &nothing, made.as_slice(), node)
-        }
+        _ => Ok(Vec::new(alloc)),
     }
 }

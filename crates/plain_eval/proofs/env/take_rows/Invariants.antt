@@ -1,4 +1,4 @@
-use Rattle.std.proofs.Common.{◌≡◌, take, ◌-◌}
+use Rattle.std.proofs.Common.{◌≡◌, take}
 use Rattle.std.specs.Vec.{vec_len}
 use Rattle.flow_model.specs.Algebra.{rows_at}
 use Rattle.plain_eval.proofs.EnvLemmas.{rows_or}

@@ -1,6 +1,6 @@
-use Rattle.std.proofs.Common.{◌≡◌, suc, ◌-◌, true, false, length, take, sym, ap, ◌∙◌, arith}
+use Rattle.std.proofs.Common.{◌≡◌, ◌-◌, sym, ap, ◌∙◌, arith}
 use Rattle.flow_model.specs.Solutions.{no_solution}
-use Rattle.flow_model.specs.Algebra.{Env, given, source_numbers, superstep, has_ended, rows_at, BulkState}
+use Rattle.flow_model.specs.Algebra.{Env, given, source_numbers, superstep, has_ended, BulkState}
 use Rattle.plain_eval.proofs.EnvLemmas.{kept-superstep}
 use Rattle.plain_eval.proofs.IterationLemmas.{bulk_turn, bulk_end, bulk_state, bulk_last}
 use Rattle.plain_eval.proofs.iterate.bulk_rows.Goals as goal

@@ -1,4 +1,4 @@
-use Rattle.std.proofs.Common.{◌≡◌, suc, ◌-◌, true, false, length, take, sym, ap, ◌∙◌, arith}
+use Rattle.std.proofs.Common.{◌≡◌, ◌-◌, true, false, sym, ap, ◌∙◌, arith}
 use Rattle.flow_model.specs.Rows.{is_nothing}
 use Rattle.flow_model.specs.Solutions.{Solution, merged}
 use Rattle.flow_model.specs.Algebra.{Env, given, source_numbers, superstep, rows_at, DeltaState}

@@ -1,4 +1,4 @@
-use Rattle.std.proofs.Common.{◌≡◌, false}
+use Rattle.std.proofs.Common.{◌≡◌}
 use Rattle.flow_model.specs.Algebra.{given, source_numbers, delta_start, delta_states}
 use Rattle.flow_model.specs.States.{last_state}
 use Rattle.plain_eval.proofs.IterationLemmas.{delta_state, delta_last}

@@ -9,7 +9,7 @@ loop-row-preserved c =
     let meeting = c.args.meeting.now in
     let before = c.loop-row.rows.items in
     let own : c.values.result.now ≡ key_of meeting.left_key.now c.row-item.result = c.values.ensures ∙ c.in_ok-key.ensures ∙ ap (key_of meeting.left_key.now) c.values-tuple.ensures in
-    flat_map_step (λ l. map (λ r. columns_of meeting.columns.now (l ++ r)) (partners meeting.left_key.now meeting.right_key.now c.args.right.now l)) c.args.left.now c.loop-row.row-index c.row-item.result before _ c.loop-row-test.true c.row-item.is c.loop-row.invariant
+    flat_map_step (λ l. map (λ r. columns_of meeting.columns.now (l ++ r)) (partners meeting.left_key.now meeting.right_key.now c.args.right.now l)) c.args.left.now c.loop-row.row-index c.row-item.result before c.push_pairs.new.rows.items c.loop-row-test.true c.row-item.is c.loop-row.invariant
     (c.in_ok-push_pairs.ensures
     ∙ ap (λ t. before ++ map (λ r. columns_of meeting.columns.now (t ++ r)) (with_key meeting.right_key.now c.values.result.now c.args.right.now)) c.values-tuple.ensures
     ∙ ap (λ k. before ++ map (λ r. columns_of meeting.columns.now (c.row-item.result ++ r)) (with_key meeting.right_key.now k c.args.right.now)) own)

@@ -6,4 +6,4 @@ use Rattle.plain_eval.proofs.keys.keep_each_once.Goals as goal
 
 pub returns : goal.returns
 returns c =
-    dedup_same _ tuple_eq _ (λ x y b f g h k. search rules) _ _ c.dedup_by.ensures.filtered ∙ ap (dedup tuple_eq) c.in_ok-sort_rows.ensures
+    dedup_same _ tuple_eq _ (λ x y b f g h k. search rules) c.sort_rows.new.rows.items c.dedup_by.new.self.items c.dedup_by.ensures.filtered ∙ ap (dedup tuple_eq) c.in_ok-sort_rows.ensures

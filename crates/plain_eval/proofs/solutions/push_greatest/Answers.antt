@@ -1,6 +1,6 @@
-use Rattle.std.proofs.Common.{◌≡◌, [], ◌∷◌, ◌++◌, sym, ap, subst, ◌∙◌}
+use Rattle.std.proofs.Common.{◌≡◌, ◌++◌, sym, ap, subst, ◌∙◌}
 use Rattle.std.specs.Prelude.{IfOk}
-use Rattle.flow_model.specs.Solutions.{last_row, greatest_row}
+use Rattle.flow_model.specs.Solutions.{last_row}
 use Rattle.plain_eval.proofs.SolutionLemmas.{last_row-push}
 use Rattle.plain_eval.proofs.solutions.push_greatest.Goals as goal
 
