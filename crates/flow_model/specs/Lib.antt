@@ -5,4 +5,3 @@ pub mod States
 pub mod Algebra
 pub mod Segments
 pub mod Full
-pub mod Built
