@@ -1,6 +1,6 @@
 use Rattle.std.specs.Prelude.{ℕ}
 use Rattle.flow_model.specs.declared.plan.Plan.{Plan}
-use Rattle.flow_model.specs.Segments.{minimum, share, exchange_part, solution_part, cache_part, work_part}
+use Rattle.flow_model.specs.Segments.{share, exchange_part, solution_part, cache_part, work_part}
 use Rattle.plan_need.specs.declared.budget.Allot.{Allot}
 
 -- How a budget of segments is divided, all of its numbers together.

@@ -1,4 +1,4 @@
-use Rattle.std.proofs.Common.{◌≡◌, ◌≤◌, ◌*◌, ◌/◌, arith}
+use Rattle.std.proofs.Common.{◌≤◌, ◌*◌, ◌/◌, arith}
 use Rattle.std.proofs.Math.Nat.{le-div_iff_mul-le}
 use Rattle.flow_model.specs.Segments.{worker_minimum}
 use Rattle.plan_need.proofs.divide.allot.Goals as goal
