@@ -1,1 +1,2 @@
 pub mod LawsOfOps
+pub mod LawsOfPlans

@@ -1,5 +1,6 @@
 //! The law of bags: what a plan gives depends on the bags of its inputs alone.
 ghost use Rattle.model_laws.specs.LawsOfOps.{OpsKeepBags, OpsGiveLists};
+ghost use Rattle.model_laws.specs.LawsOfPlans.{PlansKeepBags};
 
 /// Each operation makes the same bag of the same bags.
 pub fn ops_keep_bags()
@@ -9,4 +10,10 @@ pub fn ops_keep_bags()
 /// Each operation that goes by keys gives one list of the same bags.
 pub fn ops_give_lists()
     ensures { OpsGiveLists }
+{}
+
+/// Of inputs that are the same bags any plan gives the same bag, in as many supersteps, and is full
+/// alike, for every number of workers and every budget.
+pub fn plans_keep_bags()
+    ensures { PlansKeepBags }
 {}
