@@ -1,6 +1,10 @@
 pub mod EnvBags
 pub mod IterationBags
+pub mod ListSplits
+pub mod OnceSplits
 pub mod OpBags
+pub mod PartLaws
+pub mod PieceLaws
 pub mod PlanBags
 pub mod States
 pub mod Zips

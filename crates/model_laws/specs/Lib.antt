@@ -1,2 +1,3 @@
 pub mod LawsOfOps
+pub mod LawsOfParts
 pub mod LawsOfPlans

@@ -6,4 +6,5 @@
 //! the law.
 #![tactic(auto)]
 
+pub mod parts;
 pub mod same_bags;
