@@ -1,10 +1,14 @@
+pub mod AllLemmas
 pub mod EnvBags
 pub mod IterationBags
 pub mod ListSplits
 pub mod OnceSplits
 pub mod OpBags
+pub mod PairsFit
 pub mod PartLaws
 pub mod PieceLaws
 pub mod PlanBags
+pub mod RowsFit
+pub mod SchemaLaws
 pub mod States
 pub mod Zips

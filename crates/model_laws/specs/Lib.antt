@@ -1,3 +1,4 @@
+pub mod LawsOfFits
 pub mod LawsOfOps
 pub mod LawsOfParts
 pub mod LawsOfPlans

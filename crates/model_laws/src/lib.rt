@@ -8,3 +8,4 @@
 
 pub mod parts;
 pub mod same_bags;
+pub mod schemas;
