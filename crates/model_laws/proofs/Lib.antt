@@ -1,13 +1,17 @@
 pub mod AllLemmas
 pub mod EnvBags
+pub mod EnvFit
 pub mod IterationBags
+pub mod IterationFit
 pub mod ListSplits
+pub mod NodeFacts
 pub mod OnceSplits
 pub mod OpBags
 pub mod PairsFit
 pub mod PartLaws
 pub mod PieceLaws
 pub mod PlanBags
+pub mod PlanFit
 pub mod RowsFit
 pub mod SchemaLaws
 pub mod States

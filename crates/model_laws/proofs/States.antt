@@ -1,5 +1,7 @@
--- The states of two iterations that begin related and whose steps keep them so.
-use Rattle.std.proofs.Common.{◌≡◌, ℕ, Bool, true, false, List, [], zero, suc}
+-- The states of two iterations that begin related and whose steps keep them so, and what each step keeps.
+use Rattle.std.proofs.Common.{◌≡◌, ℕ, Bool, true, false, List, [], ◌∷◌, zero, suc}
+use Rattle.std.specs.Prelude.{All}
+use Rattle.std.proofs.lemmas.List.Elements.{All-nil, All-cons, All-head, All-tail}
 use Rattle.flow_model.specs.States.{states, last_state}
 use Rattle.model_laws.proofs.Zips.{Zipped}
 
@@ -19,3 +21,19 @@ module _ {S : Type 0} (R : S → S → Type 0) where
   pub last_state-related : {ss ts : List S} → Zipped R ss ts → (s t : S) → R s t → R (last_state s ss) (last_state t ts)
   last_state-related Zipped.none s t r = r
   last_state-related (Zipped.more {x} {y} r z) s t q = last_state-related z x y r
+
+module _ {S : Type 0} (P : S → Type 0) where
+  -- what holds of each state that follows, where states go on
+  all_follow : (b : Bool) (ss : List S) → All P ss → All P (elim b [ true ↦ ss | false ↦ [] ])
+  all_follow true ss h = h
+  all_follow false ss h = All-nil P
+
+  pub states-all : (goes_on : S → Bool) (next : S → S) → ((s : S) → P s → P (next s)) → (n : ℕ) (s : S) → P s → All P (states goes_on next n s)
+  states-all goes_on next step zero s h = All-cons P s [] h (All-nil P)
+  states-all goes_on next step (suc n) s h =
+      All-cons P s (elim (goes_on s) [ true ↦ states goes_on next n (next s) | false ↦ [] ]) h
+      (all_follow (goes_on s) (states goes_on next n (next s)) (states-all goes_on next step n (next s) (step s h)))
+
+  pub last_state-all : (ss : List S) (s : S) → P s → All P ss → P (last_state s ss)
+  last_state-all [] s h all = h
+  last_state-all (t ∷ ss) s h all = last_state-all ss t (All-head P t ss all) (All-tail P t ss all)

@@ -1,5 +1,10 @@
 //! The law of schemas: rows of a plan's nodes are tuples of the nodes' schemas.
+ghost use Rattle.std.specs.Prelude.{List};
+ghost use Rattle.flow_model.specs.declared.plan.Plan.{Plan};
+ghost use Rattle.flow_model.specs.Env.{Tuples};
+ghost use Rattle.flow_model.specs.Rules.{IsPlan};
 ghost use Rattle.model_laws.specs.LawsOfFits.{OpsFit, PairsFit};
+ghost use Rattle.model_laws.specs.LawsOfPlanFits.{StatesValues, AreInputsOf, PlanFits};
 
 /// An operation over one list of rows, or over several of a union, that has a schema gives tuples
 /// of that schema, where its rows are tuples of its input's schema.
@@ -11,4 +16,10 @@ pub fn ops_fit()
 /// are tuples of its inputs' schemas.
 pub fn pairs_fit()
     ensures { PairsFit }
+{}
+
+/// A plan that keeps the rules gives, of inputs that are tuples of their sources' schemas, tuples of
+/// its nodes' schemas, in the outer list and in each superstep, and of the result node's schema.
+pub fn plans_fit()
+    ensures { (plan : Plan) (inputs : List Tuples) → IsPlan plan → StatesValues plan → AreInputsOf plan inputs → PlanFits plan inputs }
 {}
