@@ -14,5 +14,6 @@ pub mod PlanBags
 pub mod PlanFit
 pub mod RowsFit
 pub mod SchemaLaws
+pub mod SingleKeys
 pub mod States
 pub mod Zips

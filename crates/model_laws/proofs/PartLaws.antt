@@ -1,6 +1,7 @@
 -- The law of parts: operations by keys over one list and over two, part by part.
 use Rattle.std.proofs.Common.{◌≡◌, ℕ, ◌<◌, Bool, true, false, ◌==◌, List, [], ◌∷◌, ◌++◌, map, filter, take, refl, sym, ap, ◌∙◌, subst, Option}
 use Rattle.std.specs.List.{flat_map}
+use Rattle.std.proofs.lemmas.List.{map-id}
 use Rattle.std.proofs.lemmas.List.Concat.{flat_map_single}
 use Rattle.std.proofs.lemmas.List.Elements.{filter-append}
 use Rattle.flow_types.specs.declared.agg.Agg.{Agg}
@@ -15,7 +16,7 @@ use Rattle.flow_types.proofs.EqLemmas.{Decides-tuple_eq}
 use Rattle.flow_model.specs.declared.op.JoinKind.{JoinKind}
 use Rattle.flow_model.specs.declared.op.MergeRule.{MergeRule}
 use Rattle.flow_model.specs.Env.{Tuples}
-use Rattle.flow_model.specs.Rows.{columns_of, has_key, with_key, each_once, keys_in, distinct_rows, folds_of, group_rows, top_rows, keys_of_both, cogroup_rows, partners, inner_rows, is_nothing, left_alone, right_alone, default_row, keeps_left, keeps_right, rows_if, join_rows}
+use Rattle.flow_model.specs.Rows.{columns_of, has_key, with_key, each_once, keys_in, distinct_rows, folds_of, group_rows, top_rows, keys_of_both, cogroup_rows, partners, inner_rows, is_nothing, alone, left_alone, right_alone, default_row, keeps_left, keeps_right, rows_if, join_rows}
 use Rattle.flow_model.specs.Solutions.{Solution, greatest_row, chosen, next_entry, merged, probe_rows}
 use Rattle.flow_model.specs.Full.{numbers_below}
 use Rattle.model_laws.specs.LawsOfParts.{rows_in, keyed_in, in_each}
@@ -150,6 +151,13 @@ module _ (part_of : Tuple → ℕ) where
         (λ i t. listed_if (is_nothing (partners own_key other_key (keyed_in part_of other_key i others) t)) (f t))
         (λ i t e. ap (λ us. listed_if (is_nothing us) (f t)) (partners-part own_key other_key i t e others)) xs)
         (same-from_equal (sym (map-filter_is f (λ t. is_nothing (partners own_key other_key others t)) xs))))
+
+    -- the rows without a partner
+    pub alone-parts : (own_key other_key : List ℕ) (others xs : Tuples) → SameBag (in_each n (λ i. alone own_key other_key (keyed_in part_of other_key i others) (keyed_in part_of own_key i xs))) (alone own_key other_key others xs)
+    alone-parts own_key other_key others xs =
+        SameBag.join
+        (same-from_equal (flat_map_both (λ i. alone own_key other_key (keyed_in part_of other_key i others) (keyed_in part_of own_key i xs)) (λ i. map (λ t. t) (alone own_key other_key (keyed_in part_of other_key i others) (keyed_in part_of own_key i xs))) (λ i. sym (map-id _)) refl))
+        (SameBag.join (made_alone-parts own_key other_key (λ t. t) others xs) (same-from_equal (map-id _)))
 
     rows_if-parts : (b : Bool) (part_xs : ℕ → Tuples) {xs : Tuples} → SameBag (in_each n part_xs) xs → SameBag (in_each n (λ i. rows_if b (part_xs i))) (rows_if b xs)
     rows_if-parts true part_xs s = s

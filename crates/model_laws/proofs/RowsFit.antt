@@ -141,7 +141,7 @@ top_rows-fit fields key order count rows h =
     (λ k. All-take (IsTupleOf fields) count (sort_by (rank_cmp order) (with_key key k rows)) (All-sort (IsTupleOf fields) (rank_cmp order) (with_key key k rows) (with_key-fit fields key k rows h)))
     (keys_in key rows)
 
-last_row-fit : (P : Tuple → Type 0) (rows : Tuples) → All P rows → All P (last_row rows)
+pub last_row-fit : (P : Tuple → Type 0) (rows : Tuples) → All P rows → All P (last_row rows)
 last_row-fit P [] h = h
 last_row-fit P (t ∷ []) h = h
 last_row-fit P (t ∷ u ∷ rows) h = last_row-fit P (u ∷ rows) (All-tail P t (u ∷ rows) h)

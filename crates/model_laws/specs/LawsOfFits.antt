@@ -61,18 +61,52 @@ states_values (op.Probe input key columns) = have_values columns
 
 -- Operations over one list of rows, or over several of a union.
 pub record OpsFit : Type 0 where
-  pub mapped : (fields types : Fields) (columns : List Expr) (rows : Tuples) → columns_type fields columns ≡ Some types → IsTrue (have_values columns) → AreTuplesOf fields rows → AreTuplesOf types (map_rows columns rows)
-  pub filtered : (fields types : Fields) (test : Expr) (rows : Tuples) → tested fields test ≡ Some types → AreTuplesOf fields rows → AreTuplesOf types (filter_rows test rows)
-  pub flat_mapped : (fields types : Fields) (branches : List Branch) (rows : Tuples) → (branch_types fields branches >>= all_widened) ≡ Some types → IsTrue (list_all branch_has_values branches) → AreTuplesOf fields rows → AreTuplesOf types (flat_map_rows branches rows)
-  pub united : (schemas : List Fields) (types : Fields) (lists : List Tuples) → all_widened schemas ≡ Some types → AllZip AreTuplesOf schemas lists → AreTuplesOf types (flat_map (λ rows. rows) lists)
+  pub mapped :
+      (fields types : Fields) (columns : List Expr) (rows : Tuples) →
+      columns_type fields columns ≡ Some types → IsTrue (have_values columns) →
+      AreTuplesOf fields rows → AreTuplesOf types (map_rows columns rows)
+  pub filtered :
+      (fields types : Fields) (test : Expr) (rows : Tuples) →
+      tested fields test ≡ Some types → AreTuplesOf fields rows → AreTuplesOf types (filter_rows test rows)
+  pub flat_mapped :
+      (fields types : Fields) (branches : List Branch) (rows : Tuples) →
+      (branch_types fields branches >>= all_widened) ≡ Some types → IsTrue (list_all branch_has_values branches) →
+      AreTuplesOf fields rows → AreTuplesOf types (flat_map_rows branches rows)
+  pub united :
+      (schemas : List Fields) (types : Fields) (lists : List Tuples) →
+      all_widened schemas ≡ Some types → AllZip AreTuplesOf schemas lists → AreTuplesOf types (flat_map (λ rows. rows) lists)
   pub distinct : (fields : Fields) (rows : Tuples) → AreTuplesOf fields rows → AreTuplesOf fields (distinct_rows rows)
-  pub grouped : (fields types : Fields) (key : List ℕ) (aggs : List Agg) (rows : Tuples) → group_type fields key aggs ≡ Some types → IsTrue (list_all states_long aggs) → AreTuplesOf fields rows → AreTuplesOf types (group_rows key aggs rows)
-  pub topped : (fields types : Fields) (key : List ℕ) (order : List OrderItem) (count : ℕ) (rows : Tuples) → ranked fields key order ≡ Some types → AreTuplesOf fields rows → AreTuplesOf types (top_rows key order count rows)
-  pub choice : (fields : Fields) (key : List ℕ) (order : List OrderItem) (rows : Tuples) → AreTuplesOf fields rows → AreTuplesOf fields (chosen key order rows)
+  pub grouped :
+      (fields types : Fields) (key : List ℕ) (aggs : List Agg) (rows : Tuples) →
+      group_type fields key aggs ≡ Some types → IsTrue (list_all states_long aggs) →
+      AreTuplesOf fields rows → AreTuplesOf types (group_rows key aggs rows)
+  pub topped :
+      (fields types : Fields) (key : List ℕ) (order : List OrderItem) (count : ℕ) (rows : Tuples) →
+      ranked fields key order ≡ Some types → AreTuplesOf fields rows → AreTuplesOf types (top_rows key order count rows)
+  pub choice :
+      (fields : Fields) (key : List ℕ) (order : List OrderItem) (rows : Tuples) →
+      AreTuplesOf fields rows → AreTuplesOf fields (chosen key order rows)
 
 -- Operations over two lists of rows. A join's defaults are those that its kind wants.
 pub record PairsFit : Type 0 where
-  pub joined : (lefts rights types : Fields) (kind : JoinKind) (left_key right_key : List ℕ) (columns : List Expr) (left_default right_default : Option Tuple) (ls rs : Tuples) → join_type lefts rights left_key right_key columns left_default right_default ≡ Some types → IsTrue (has_defaults kind left_default right_default) → IsTrue (have_values columns && default_has_values left_default && default_has_values right_default) → AreTuplesOf lefts ls → AreTuplesOf rights rs → AreTuplesOf types (join_rows kind left_key right_key columns left_default right_default ls rs)
-  pub cogrouped : (lefts rights types : Fields) (left_key right_key : List ℕ) (left_aggs right_aggs : List Agg) (ls rs : Tuples) → cogroup_type lefts rights left_key right_key left_aggs right_aggs ≡ Some types → IsTrue (list_all states_long left_aggs && list_all states_long right_aggs) → AreTuplesOf lefts ls → AreTuplesOf rights rs → AreTuplesOf types (cogroup_rows left_key right_key left_aggs right_aggs ls rs)
-  pub probed : (lefts rights types : Fields) (held : Solution) (key : List ℕ) (columns : List Expr) (rows : Tuples) → join_type lefts rights key held.key columns None None ≡ Some types → IsTrue (have_values columns) → AreTuplesOf lefts rows → AreTuplesOf rights held.entries → AreTuplesOf types (probe_rows held key columns rows)
-  pub put_together : (fields : Fields) (key : List ℕ) (order : List OrderItem) (merge : MergeRule) (old rows : Tuples) → AreTuplesOf fields old → AreTuplesOf fields rows → AreTuplesOf fields (merged key order merge old rows)
+  pub joined :
+      (lefts rights types : Fields) (kind : JoinKind) (left_key right_key : List ℕ) (columns : List Expr)
+      (left_default right_default : Option Tuple) (ls rs : Tuples) →
+      join_type lefts rights left_key right_key columns left_default right_default ≡ Some types →
+      IsTrue (has_defaults kind left_default right_default) →
+      IsTrue (have_values columns && default_has_values left_default && default_has_values right_default) →
+      AreTuplesOf lefts ls → AreTuplesOf rights rs →
+      AreTuplesOf types (join_rows kind left_key right_key columns left_default right_default ls rs)
+  pub cogrouped :
+      (lefts rights types : Fields) (left_key right_key : List ℕ) (left_aggs right_aggs : List Agg) (ls rs : Tuples) →
+      cogroup_type lefts rights left_key right_key left_aggs right_aggs ≡ Some types →
+      IsTrue (list_all states_long left_aggs && list_all states_long right_aggs) →
+      AreTuplesOf lefts ls → AreTuplesOf rights rs →
+      AreTuplesOf types (cogroup_rows left_key right_key left_aggs right_aggs ls rs)
+  pub probed :
+      (lefts rights types : Fields) (held : Solution) (key : List ℕ) (columns : List Expr) (rows : Tuples) →
+      join_type lefts rights key held.key columns None None ≡ Some types → IsTrue (have_values columns) →
+      AreTuplesOf lefts rows → AreTuplesOf rights held.entries → AreTuplesOf types (probe_rows held key columns rows)
+  pub put_together :
+      (fields : Fields) (key : List ℕ) (order : List OrderItem) (merge : MergeRule) (old rows : Tuples) →
+      AreTuplesOf fields old → AreTuplesOf fields rows → AreTuplesOf fields (merged key order merge old rows)

@@ -7,7 +7,7 @@ use Rattle.flow_model.specs.declared.plan.Plan.{Plan}
 use Rattle.flow_model.specs.Env.{Tuples}
 use Rattle.flow_model.specs.Solutions.{no_solution}
 use Rattle.flow_model.specs.Algebra.{Env, rows_at, is_source, source_numbers, given, nodes_of, superstep, BulkState, bulk_states, DeltaState, delta_states, node_rows, eval, Moment, moments_of}
-use Rattle.flow_model.specs.Rules.{bind_schema, schema_in}
+use Rattle.flow_model.specs.Rules.{bind_schema, schema_in, IsPlan}
 use Rattle.model_laws.specs.LawsOfFits.{AreTuplesOf, states_values}
 
 -- The law of schemas, whole: what a plan that keeps the rules makes of tuples of its sources' schemas is tuples of its
@@ -63,3 +63,8 @@ pub record MomentFits (inputs : Env) (nodes : List Node) (m : Moment) : Type 0 w
 pub record PlanFits (plan : Plan) (inputs : List Tuples) : Type 0 where
   pub nodes : All (MomentFits (given (source_numbers plan.nodes) inputs) plan.nodes) (moments_of plan inputs)
   pub result : AreTuplesOf (schema_in plan.nodes 0 plan.result) (eval plan inputs)
+
+-- so of each plan that keeps the rules, over inputs that are its sources'
+abbrev pub PlansFit : Type 0
+PlansFit =
+    (plan : Plan) (inputs : List Tuples) → IsPlan plan → StatesValues plan → AreInputsOf plan inputs → PlanFits plan inputs

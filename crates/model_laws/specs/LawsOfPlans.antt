@@ -15,6 +15,11 @@ AreSameBags = AllZip SameBag
 -- Of inputs that are the same bags the results of any plan are the same bag, it takes as many supersteps, and for
 -- every number of workers and every budget it is full by the same numbers or not at all.
 pub record PlansKeepBags : Type 0 where
-  pub result : (plan : Plan) (inputs others : List Tuples) → AreSameBags inputs others → SameBag (eval plan inputs) (eval plan others)
-  pub steps : (plan : Plan) (inputs others : List Tuples) → AreSameBags inputs others → supersteps plan inputs ≡ supersteps plan others
-  pub fullness : (plan : Plan) (inputs others : List Tuples) → AreSameBags inputs others → (workers budget : ℕ) → full plan inputs workers budget ≡ full plan others workers budget
+  pub result :
+      (plan : Plan) (inputs others : List Tuples) → AreSameBags inputs others → SameBag (eval plan inputs) (eval plan others)
+  pub steps :
+      (plan : Plan) (inputs others : List Tuples) → AreSameBags inputs others →
+      supersteps plan inputs ≡ supersteps plan others
+  pub fullness :
+      (plan : Plan) (inputs others : List Tuples) → AreSameBags inputs others →
+      (workers budget : ℕ) → full plan inputs workers budget ≡ full plan others workers budget

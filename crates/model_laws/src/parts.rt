@@ -1,18 +1,16 @@
 //! The law of parts: what may be done part by part and piece by piece.
-ghost use Rattle.std.specs.Prelude.{ℕ};
-ghost use Rattle.flow_types.specs.Tuples.{Tuple};
-ghost use Rattle.model_laws.specs.LawsOfParts.{HasParts, OpsSplit, PairsSplit, PiecesSplit, HashGivesParts};
+ghost use Rattle.model_laws.specs.LawsOfParts.{OpsSplit, PairsSplit, PiecesSplit, HashGivesParts};
 
 /// An operation by keys over one list, over the rows of each part, one part after the other, is the
 /// operation over all rows, for any function from keys to parts.
 pub fn ops_split()
-    ensures { (n : ℕ) (part_of : Tuple → ℕ) → HasParts n part_of → OpsSplit n part_of }
+    ensures { OpsSplit }
 {}
 
 /// An operation by keys over two lists, over the rows of each part of both, one part after the
 /// other, is the operation over all rows, for any function from keys to parts.
 pub fn pairs_split()
-    ensures { (n : ℕ) (part_of : Tuple → ℕ) → HasParts n part_of → PairsSplit n part_of }
+    ensures { PairsSplit }
 {}
 
 /// An operation without a key over each piece of a list, one piece after the other, is the operation

@@ -1,10 +1,6 @@
 //! The law of schemas: rows of a plan's nodes are tuples of the nodes' schemas.
-ghost use Rattle.std.specs.Prelude.{List};
-ghost use Rattle.flow_model.specs.declared.plan.Plan.{Plan};
-ghost use Rattle.flow_model.specs.Env.{Tuples};
-ghost use Rattle.flow_model.specs.Rules.{IsPlan};
 ghost use Rattle.model_laws.specs.LawsOfFits.{OpsFit, PairsFit};
-ghost use Rattle.model_laws.specs.LawsOfPlanFits.{StatesValues, AreInputsOf, PlanFits};
+ghost use Rattle.model_laws.specs.LawsOfPlanFits.{PlansFit};
 
 /// An operation over one list of rows, or over several of a union, that has a schema gives tuples
 /// of that schema, where its rows are tuples of its input's schema.
@@ -21,5 +17,5 @@ pub fn pairs_fit()
 /// A plan that keeps the rules gives, of inputs that are tuples of their sources' schemas, tuples of
 /// its nodes' schemas, in the outer list and in each superstep, and of the result node's schema.
 pub fn plans_fit()
-    ensures { (plan : Plan) (inputs : List Tuples) → IsPlan plan → StatesValues plan → AreInputsOf plan inputs → PlanFits plan inputs }
+    ensures { PlansFit }
 {}
