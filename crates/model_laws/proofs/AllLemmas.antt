@@ -2,7 +2,7 @@
 use Rattle.std.proofs.Common.{◌≡◌, Bool, true, List, [], ◌∷◌, refl}
 use Rattle.std.specs.Prelude.{All}
 use Rattle.std.specs.List.{flat_map, list_all}
-use Rattle.std.proofs.lemmas.List.Elements.{All-nil, All-head, All-tail, All-append}
+use Rattle.std.proofs.lemmas.List.Elements.{All-nil, All-cons, All-head, All-tail, All-append}
 use Rattle.std.proofs.lemmas.List.Filters.{All-dedup}
 use Rattle.std.proofs.lemmas.List.Sorted.{All-permutation}
 use Rattle.std.specs.declared.cmp.Ordering.{Ordering}
@@ -10,7 +10,7 @@ use Rattle.flow_types.specs.Tuples.{Tuple, tuple_eq}
 use Rattle.flow_types.specs.Bags.{ordered, sort_by}
 use Rattle.flow_types.specs.SameBags.{SameBag}
 use Rattle.flow_types.proofs.BagBridges.{permutation_from_same, same-sort, same-ordered}
-use Rattle.flow_types.proofs.ValueLemmas.{both_pass}
+use Rattle.flow_types.proofs.ValueLemmas.{both_true, both_pass}
 use Rattle.flow_model.specs.Env.{Tuples}
 use Rattle.flow_model.specs.Rows.{each_once}
 
@@ -33,6 +33,12 @@ pub All-flat_map_of : {X Y : Type 0} (Q : X → Type 0) (P : Y → Type 0) (f : 
 All-flat_map_of Q P f h [] q = All-nil P
 All-flat_map_of Q P f h (x ∷ xs) q =
     All-append P (f x) (flat_map f xs) (h x (All-head Q x xs q)) (All-flat_map_of Q P f h xs (All-tail Q x xs q))
+
+pub All_from_list_all : {X : Type 0} (p : X → Bool) (xs : List X) → list_all p xs ≡ true → All (λ x. p x ≡ true) xs
+All_from_list_all p [] h = All-nil (λ x. p x ≡ true)
+All_from_list_all p (x ∷ xs) h =
+    let both = both_true (p x) (list_all p xs) h in
+    All-cons (λ x. p x ≡ true) x xs both.0 (All_from_list_all p xs both.1)
 
 pub list_all_from_All : {X : Type 0} (Q : X → Type 0) (p : X → Bool) → ((x : X) → Q x → p x ≡ true) → (xs : List X) → All Q xs → list_all p xs ≡ true
 list_all_from_All Q p h [] q = refl

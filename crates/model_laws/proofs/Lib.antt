@@ -1,6 +1,7 @@
 pub mod AllLemmas
 pub mod EnvBags
 pub mod EnvFit
+pub mod HeldLemmas
 pub mod IterationBags
 pub mod IterationFit
 pub mod ListSplits

@@ -16,7 +16,8 @@ use Rattle.flow_model.specs.States.{last_state}
 use Rattle.flow_model.specs.Algebra.{Env, rows_at, and_rows, is_source, source_numbers, given, nodes_of, plain_rows, BulkState, bulk_start, bulk_states, DeltaState, delta_start, delta_states, node_rows, outer_step, moments}
 use Rattle.flow_model.specs.Rules.{is_numbered, node_at, bind_schema, schema_in, IsPlan}
 use Rattle.model_laws.specs.LawsOfFits.{AreTuplesOf}
-use Rattle.model_laws.specs.LawsOfPlanFits.{StatesValues, AreInputsOf, NodesFit, bound_lists, held_lists, superstep_ends, MomentFits, PlanFits}
+use Rattle.model_laws.proofs.AllLemmas.{All_from_list_all}
+use Rattle.model_laws.specs.LawsOfPlanFits.{node_states_values, StatesValues, AreInputsOf, NodesFit, bound_lists, held_lists, superstep_ends, MomentFits, PlanFits}
 use Rattle.model_laws.proofs.NodeFacts.{OpFacts, NodeFacts, node_facts, none_below, schema_in-own}
 use Rattle.model_laws.proofs.EnvFit.{Fit, BodyNode, body_nodes, rows_at-more, fit-more, number_some, plain_rows-fit}
 use Rattle.model_laws.proofs.IterationFit.{Begins, BulkFits, bulk_start-fit, bulk_states-fit, bulk_schema, bulk_bodies, DeltaFits, delta_start-fit, delta_states-fit, delta_bodies}
@@ -155,7 +156,7 @@ given-fit nodes (x ∷ sources) (rows ∷ lists) facts h n = go (x.number == n) 
 
 module _ (plan : Plan) (inputs : List Tuples) (rules : IsPlan plan) (values : StatesValues plan) (lists : AreInputsOf plan inputs) where
   facts : All (NodeFacts plan.nodes) plan.nodes
-  facts = node_facts plan.nodes rules.numbers rules.homes rules.nodes values
+  facts = node_facts plan.nodes rules.numbers rules.homes rules.nodes (All_from_list_all node_states_values plan.nodes values)
 
   inputs_fit : Fit plan.nodes 0 (given (source_numbers plan.nodes) inputs)
   inputs_fit =

@@ -42,7 +42,7 @@ default_has_values None = true
 default_has_values (Some t) = list_all is_value t
 
 -- What an op states is of values that a field can hold: its literals, the numbers of its folds over no rows, and its
--- defaults. In memory each is a `Value` or an `i64`, so it is so of each op there.
+-- defaults. It is so of each op in memory, where each is a `Value` or an `i64`, as `op_states_values` shows.
 abbrev pub states_values : Op → Bool
 states_values (op.Source fields delimiter) = true
 states_values (op.Map input columns) = have_values columns

@@ -1,5 +1,5 @@
-use Rattle.std.specs.Prelude.{ℕ, List, [], map, filter, All, IsTrue}
-use Rattle.std.specs.List.{AllZip}
+use Rattle.std.specs.Prelude.{ℕ, Bool, List, [], map, filter, All, IsTrue}
+use Rattle.std.specs.List.{AllZip, list_all}
 use Rattle.flow_model.specs.declared.op.Op.{Op}
 use Rattle.flow_model.specs.declared.op.Op.TheVariants as op
 use Rattle.flow_model.specs.declared.plan.Node.{Node}
@@ -13,9 +13,13 @@ use Rattle.model_laws.specs.LawsOfFits.{AreTuplesOf, states_values}
 -- The law of schemas, whole: what a plan that keeps the rules makes of tuples of its sources' schemas is tuples of its
 -- nodes' schemas, in the outer list and in each superstep.
 
+-- a node's op states values that a field can hold
+abbrev pub node_states_values : Node → Bool
+node_states_values node = states_values node.op
+
 -- each op of a plan states values that a field can hold, as each does in memory
 abbrev pub StatesValues : Plan → Type 0
-StatesValues plan = All (λ (node : Node). IsTrue (states_values node.op)) plan.nodes
+StatesValues plan = IsTrue (list_all node_states_values plan.nodes)
 
 -- as many inputs as sources, each of tuples of its source's schema
 abbrev pub AreInputsOf : Plan → List Tuples → Type 0
