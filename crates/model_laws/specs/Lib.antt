@@ -1,0 +1,5 @@
+pub mod LawsOfFits
+pub mod LawsOfOps
+pub mod LawsOfParts
+pub mod LawsOfPlanFits
+pub mod LawsOfPlans
