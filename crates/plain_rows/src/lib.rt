@@ -1,0 +1,14 @@
+//! Worked examples of every operation, run through the plain program over plans made in memory. It
+//! stands on the plain program, and holds nothing but tests.
+//!
+//! Its one promise: what `eval_rows` gives for each example is what the example's author says.
+#![tactic(auto)]
+
+#[cfg(test)]
+mod fixtures;
+#[cfg(test)]
+mod ops;
+#[cfg(test)]
+mod plans;
+#[cfg(test)]
+mod tests;
