@@ -1,0 +1,7 @@
+pub mod Json
+pub mod Reading
+pub mod Names
+pub mod Numbers
+pub mod Forms
+pub mod Exprs
+pub mod Counted
