@@ -60,15 +60,11 @@ abbrev pub long : Data → Option ℤ
 long d = as_number d >>= as_i64
 
 -- the names of an object's members
-abbrev pub names_in : Members → List (List ℕ)
-names_in no_members = []
-names_in (member name d rest) = name ∷ names_in rest
+abbrev pub member_names : Members → List (List ℕ)
+member_names no_members = []
+member_names (member name d rest) = name ∷ member_names rest
 
 -- whether every name passes, of an object that is one
 abbrev pub all_names : (List ℕ → Bool) → Option Members → Bool
 all_names known None = false
-all_names known (Some members) = list_all known (names_in members)
-
--- an object that has no other member than those that are known
-abbrev pub has_only : (List ℕ → Bool) → Data → Bool
-has_only known d = all_names known (as_object d)
+all_names known (Some members) = list_all known (member_names members)

@@ -5,3 +5,5 @@ pub mod Numbers
 pub mod Forms
 pub mod Exprs
 pub mod Counted
+pub mod Rows
+pub mod Branches

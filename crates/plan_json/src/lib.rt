@@ -5,6 +5,7 @@
 //! exactly its first flaw, memory aside.
 #![tactic(auto)]
 
+pub mod branches;
 mod counted;
 pub mod exprs;
 pub mod folds;
@@ -13,5 +14,6 @@ pub mod literals;
 pub mod names;
 pub mod numbers;
 pub mod reading;
+pub mod rows;
 pub mod types;
 pub mod words;
