@@ -30,6 +30,32 @@ abbrev pub ◌<$>◌ : {A B : Type 0} → (A → B) → Reading A → Reading B
 f <$> Ok x = Ok (f x)
 f <$> Err d = Err d
 
+-- A value made of parts, each of which is read: the value, or the first flaw of all.
+
+abbrev pub from_one : {A R : Type 0} → (A → R) → Reading A → Reading R
+from_one f a = f <$> a
+
+abbrev pub from_two : {A B R : Type 0} → (A → B → R) → Reading A → Reading B → Reading R
+from_two f a b = f <$> a <*> b
+
+abbrev pub from_three : {A B C R : Type 0} → (A → B → C → R) → Reading A → Reading B → Reading C → Reading R
+from_three f a b c = f <$> a <*> b <*> c
+
+abbrev pub from_four : {A B C D R : Type 0} → (A → B → C → D → R) → Reading A → Reading B → Reading C → Reading D → Reading R
+from_four f a b c d = f <$> a <*> b <*> c <*> d
+
+abbrev pub from_five : {A B C D E R : Type 0} → (A → B → C → D → E → R) → Reading A → Reading B → Reading C → Reading D → Reading E → Reading R
+from_five f a b c d e = f <$> a <*> b <*> c <*> d <*> e
+
+abbrev pub from_six : {A B C D E F R : Type 0} → (A → B → C → D → E → F → R) → Reading A → Reading B → Reading C → Reading D → Reading E → Reading F → Reading R
+from_six f a b c d e g = f <$> a <*> b <*> c <*> d <*> e <*> g
+
+abbrev pub from_seven : {A B C D E F G R : Type 0} → (A → B → C → D → E → F → G → R) → Reading A → Reading B → Reading C → Reading D → Reading E → Reading F → Reading G → Reading R
+from_seven f a b c d e g h = f <$> a <*> b <*> c <*> d <*> e <*> g <*> h
+
+abbrev pub from_nine : {A B C D E F G H I R : Type 0} → (A → B → C → D → E → F → G → H → I → R) → Reading A → Reading B → Reading C → Reading D → Reading E → Reading F → Reading G → Reading H → Reading I → Reading R
+from_nine f a b c d e g h i j = f <$> a <*> b <*> c <*> d <*> e <*> g <*> h <*> i <*> j
+
 -- two values that are read, or the first flaw of both
 abbrev pub both : {A B : Type 0} → Reading A → Reading B → Reading (A × B)
 both (Ok x) (Ok y) = Ok (x, y)

@@ -1,13 +1,10 @@
-// A library with one function.
+//! Plans as text: the JSON of a plan is read into a tree, or its first reading fault is named. It
+//! stands on the forms of a plan's members and on JSON as `serde_json` reads it.
+//!
+//! Its one promise: `read_plan` gives exactly the tree or exactly the first fault that `plan_of` of
+//! `specs/Plans.antt` gives of the bytes, memory aside.
 #![tactic(auto)]
 
-ghost use Rattle.std.specs.Prelude.{◌≡◌};
-ghost use Rattle.plan_text.specs.Echo.{echo_of};
-
-// The `ensures` clause is the contract: what `echo` returns is `echo_of` of its argument, a definition
-// in `specs/Echo.antt`, which a caller's clause can cite too.
-pub fn echo(x: usize) -> usize
-    ensures { result ≡ echo_of x }
-{
-    x
-}
+pub mod fault;
+mod ops;
+pub mod tree;
