@@ -6,5 +6,8 @@
 #![tactic(auto)]
 
 pub mod fault;
+mod nodes;
+mod numbering;
 mod ops;
+pub mod plan;
 pub mod tree;
