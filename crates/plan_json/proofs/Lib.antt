@@ -1,0 +1,4 @@
+pub mod DataLemmas
+pub mod Extents
+pub mod Limited
+pub mod ReadingLemmas
