@@ -5,20 +5,20 @@
 //! the algebra's order. It is slow: it goes as the definitions go.
 #![tactic(auto)]
 
-pub mod arithmetic;
-pub mod body;
-pub mod cut;
-pub mod env;
+mod arithmetic;
+mod body;
+mod cut;
+mod env;
 pub mod eval;
-pub mod folds;
-pub mod groups;
-pub mod held;
-pub mod iterate;
-pub mod join;
-pub mod keys;
-pub mod lists;
-pub mod rank;
-pub mod row_ops;
-pub mod solutions;
-pub mod value_of;
-pub mod values;
+mod folds;
+mod groups;
+mod held;
+mod iterate;
+mod join;
+mod keys;
+mod lists;
+mod rank;
+mod row_ops;
+mod solutions;
+mod value_of;
+mod values;
