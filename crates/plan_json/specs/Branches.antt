@@ -1,4 +1,4 @@
-use Rattle.std.specs.Prelude.{ℕ, Bool, ◌&&◌, codes, List, Option, Some, is_some}
+use Rattle.std.specs.Prelude.{Bool, ◌&&◌, codes, List, Option, Some, is_some}
 use Rattle.std.specs.List.{list_all}
 use Rattle.serde_json.specs.Data.{Data}
 use Rattle.serde_json.specs.Find.{get}
