@@ -16,6 +16,7 @@ use Rattle.plan_json.specs.Exprs.{limited_expr}
 abbrev pub is_branch : Data → Bool
 is_branch d = has_only form.Branch d && is_some (get (codes "when") d) && is_some (get (codes "columns") d >>= list_in 1 32)
 
+-- the branch that an object of the form is, where its expressions are ones within their limits
 abbrev pub branch_of : Data → Option Branch
 branch_of d =
     (get (codes "when") d >>= limited_expr) >>= λ when.

@@ -53,6 +53,7 @@ outline_of d =
     (get (codes "result") d >>= name_of) >>= λ result.
     only_if (has_only form.Plan d && is_some (get (codes "version") d >>= number_of 1 1)) (record { segment = segment; nodes = nodes; result = result })
 
+-- a plan's fault
 abbrev pub refused : ℕ → PlanCode → Result PlanTree PlanFault
 refused node c = Err (fault.Refused node c)
 
