@@ -15,8 +15,8 @@ use Rattle.plan_json.specs.Json.{◌>>=◌, only_if, listed, items_in, is_text, 
 use Rattle.plan_json.specs.Numbers.{number_of, field_number}
 use Rattle.flow_types.specs.Limits.{text_limit}
 use Rattle.plan_json.specs.Exprs.{Part, un_ops, bin_ops, un_of, bin_of, cut_of, if_of, of_parts, expr_of, parts_of}
-use Rattle.plan_json.specs.Counted.{part_of, is_within, counted, sized, counted_un, counted_cut, counted_bin, counted_if}
-use Rattle.plan_json.proofs.Extents.{extent-Lit, extent-Field, extent-Un, extent-Bin, extent-If, extent-Cut}
+use Rattle.plan_json.specs.Counted.{part_of, counted, sized, counted_un, counted_cut, counted_bin, counted_if}
+use Rattle.plan_json.proofs.Extents.{extent-Field, extent-Un, extent-Bin, extent-If, extent-Cut}
 
 deeper : (a n : ℕ) → nat_le (1 + a) (n + 1) ≡ nat_le a n
 deeper a n = grind (arith, nat_tests)

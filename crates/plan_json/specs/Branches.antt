@@ -1,4 +1,4 @@
-use Rattle.std.specs.Prelude.{ℕ, Bool, ◌&&◌, codes, List, Option, Some, is_some}
+use Rattle.std.specs.Prelude.{Bool, ◌&&◌, codes, List, Option, Some, is_some}
 use Rattle.std.specs.List.{list_all}
 use Rattle.serde_json.specs.Data.{Data}
 use Rattle.serde_json.specs.Find.{get}
@@ -16,6 +16,7 @@ use Rattle.plan_json.specs.Exprs.{limited_expr}
 abbrev pub is_branch : Data → Bool
 is_branch d = has_only form.Branch d && is_some (get (codes "when") d) && is_some (get (codes "columns") d >>= list_in 1 32)
 
+-- the branch that an object of the form is, where its expressions are ones within their limits
 abbrev pub branch_of : Data → Option Branch
 branch_of d =
     (get (codes "when") d >>= limited_expr) >>= λ when.

@@ -27,14 +27,18 @@ counted lists o = o >>= λ e. only_if (is_within lists e) (record { expr = e; pa
 abbrev pub sized : Expr → ℕ → Option Counted
 sized e parts = only_if (nat_le parts part_limit) (record { expr = e; parts = parts })
 
+-- an operation on an expression, where the whole has few enough parts
 abbrev pub counted_un : UnOp → Option Counted → Option Counted
 counted_un op a = a >>= λ x. sized (expr.Un op x.expr) (1 + x.parts)
 
+-- a cut of an expression, likewise
 abbrev pub counted_cut : ℕ → Option Counted → Option Counted
 counted_cut n a = a >>= λ x. sized (expr.Cut x.expr n) (1 + x.parts)
 
+-- an operation on two expressions, likewise
 abbrev pub counted_bin : BinOp → Option Counted → Option Counted → Option Counted
 counted_bin op a b = a >>= λ x. b >>= λ y. sized (expr.Bin op x.expr y.expr) (1 + x.parts + y.parts)
 
+-- a choice of three expressions, likewise
 abbrev pub counted_if : Option Counted → Option Counted → Option Counted → Option Counted
 counted_if c a b = c >>= λ x. a >>= λ y. b >>= λ z. sized (expr.If x.expr y.expr z.expr) (1 + x.parts + y.parts + z.parts)

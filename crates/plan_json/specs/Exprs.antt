@@ -1,6 +1,6 @@
 use Rattle.std.specs.Prelude.{ℕ, Bool, true, false, nat_le, if◌then◌else◌, List, [], ◌∷◌, length, codes, Option, Some, None, option_map, Ok, Err}
 use Rattle.serde_json.specs.Data.{Data, null, boolean, number, string, array, object, Items, no_items, item}
-use Rattle.serde_json.specs.Find.{get, as_str, as_i64}
+use Rattle.serde_json.specs.Find.{as_str, as_i64}
 use Rattle.flow_types.specs.declared.value.Value.{Value}
 use Rattle.flow_types.specs.declared.value.Value.TheVariants as value
 use Rattle.flow_types.specs.declared.expr.UnOp.{UnOp}

@@ -1,4 +1,4 @@
-use Rattle.std.specs.Prelude.{ℕ, Bool, true, false, not, ◌&&◌, ◌||◌, ◌==◌, nat_le, if◌then◌else◌, ℤ, pos, List, [], ◌∷◌, length, take, drop, codes, Option, Some, None, option_map, Ok}
+use Rattle.std.specs.Prelude.{ℕ, Bool, true, false, not, ◌&&◌, ◌||◌, ◌==◌, nat_le, if◌then◌else◌, ℤ, pos, List, [], ◌∷◌, length, take, drop, codes, Option, Some, None, option_map}
 use Rattle.std.specs.Str.{bytes_eq}
 use Rattle.serde_json.specs.Data.{Data}
 use Rattle.serde_json.specs.Find.{as_str, as_bool}
@@ -36,6 +36,7 @@ type_of_text text =
     else (if bytes_eq text (codes "bool") then Some type.Bool
     else (if nat_le 4 (length text) && bytes_eq (take 4 text) (codes "str:") then option_map type.Str (bound_of (drop 4 text)) else None))
 
+-- the type of a field that a text names
 abbrev pub field_type : Data → Option FieldType
 field_type d = as_str d >>= type_of_text
 
@@ -76,6 +77,7 @@ agg_in (word ∷ i ∷ []) = field_number i >>= agg_on word
 agg_in (word ∷ i ∷ n ∷ []) = field_number i >>= λ i. long n >>= extreme word i
 agg_in _ = None
 
+-- the fold that an array is
 abbrev pub agg_of : Data → Option Agg
 agg_of d = items_in d >>= agg_in
 
@@ -93,6 +95,7 @@ order_item_in (i ∷ word ∷ []) =
     field_number i >>= λ i. as_str word >>= meaning directions >>= λ down. Some (record { field = i; down = down })
 order_item_in _ = None
 
+-- the order's item that an array is
 abbrev pub order_item_of : Data → Option OrderItem
 order_item_of d = items_in d >>= order_item_in
 
@@ -100,6 +103,7 @@ order_item_of d = items_in d >>= order_item_in
 abbrev pub order_in : Option Data → Reading (List OrderItem)
 order_in member = or_flaw flaw.Node (member >>= list_in 0 8 >>= collected order_item_of)
 
+-- the kinds of joins by their words
 abbrev pub kinds : List (List ℕ × JoinKind)
 kinds = (codes "inner", kind.Inner) ∷ (codes "left", kind.Left) ∷ (codes "right", kind.Right) ∷ (codes "full", kind.Full) ∷ []
 
@@ -107,6 +111,7 @@ kinds = (codes "inner", kind.Inner) ∷ (codes "left", kind.Left) ∷ (codes "ri
 abbrev pub kind_in : Option Data → Reading JoinKind
 kind_in member = or_absent kind.Inner (λ d. or_flaw flaw.Node (as_str d >>= meaning kinds)) member
 
+-- the rules of merges by their words
 abbrev pub merge_rules : List (List ℕ × MergeRule)
 merge_rules = (codes "replace", merge.Replace) ∷ (codes "greatest", merge.Greatest) ∷ []
 

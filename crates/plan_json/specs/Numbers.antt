@@ -1,9 +1,9 @@
-use Rattle.std.specs.Prelude.{ℕ, Bool, true, not, ◌&&◌, ◌==◌, nat_le, ℤ, pos, negsuc, List, [], ◌∷◌, Option, Some, None}
+use Rattle.std.specs.Prelude.{ℕ, Bool, true, not, ◌&&◌, ◌==◌, nat_le, ℤ, pos, negsuc, List, [], ◌∷◌, Option, None}
 use Rattle.std.specs.List.{list_any}
 use Rattle.serde_json.specs.Data.{Data}
 use Rattle.plan_json.specs.declared.reading.Flaw.TheVariants as flaw
 use Rattle.plan_json.specs.Json.{◌>>=◌, only_if, collected, list_in, long}
-use Rattle.plan_json.specs.Reading.{Reading, or_flaw, formed}
+use Rattle.plan_json.specs.Reading.{Reading, or_flaw}
 
 -- Members that are numbers. A JSON number counts only where `serde_json` gives it as a Long.
 

@@ -1,4 +1,4 @@
-use Rattle.std.specs.Prelude.{List, Option, Some, None, Result, Ok, Err, ok_or}
+use Rattle.std.specs.Prelude.{Option, Some, None, Result, Ok, Err, ok_or}
 use Rattle.serde_json.specs.Data.{Data}
 use Rattle.plan_json.specs.declared.reading.Flaw.{Flaw}
 use Rattle.plan_json.specs.declared.reading.Flaw.TheVariants as flaw

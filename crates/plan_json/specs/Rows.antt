@@ -1,4 +1,4 @@
-use Rattle.std.specs.Prelude.{ℕ, Bool, ◌||◌, List, [], ◌∷◌, codes, Option}
+use Rattle.std.specs.Prelude.{ℕ, Bool, List, [], ◌∷◌, codes, Option}
 use Rattle.std.specs.Str.{bytes_eq}
 use Rattle.std.specs.List.{list_any}
 use Rattle.serde_json.specs.Data.{Data}
@@ -11,6 +11,7 @@ use Rattle.plan_json.specs.Json.{◌>>=◌, meaning, all_names}
 
 -- The ops, and the members that an object of a plan may have. They are this project's own.
 
+-- the ops by their words
 abbrev pub op_names : List (List ℕ × OpName)
 op_names =
     (codes "source", op_name.Source) ∷ (codes "map", op_name.Map) ∷ (codes "filter", op_name.Filter) ∷ (codes "flat_map", op_name.FlatMap)
@@ -47,6 +48,7 @@ members_of form.Plan = codes "version" ∷ codes "segment" ∷ codes "nodes" ∷
 members_of form.Branch = codes "when" ∷ codes "columns" ∷ []
 members_of (form.Node op) = codes "name" ∷ codes "op" ∷ row_of op
 
+-- whether a member belongs to an object of this form
 abbrev pub is_member : Form → List ℕ → Bool
 is_member f name = list_any (bytes_eq name) (members_of f)
 

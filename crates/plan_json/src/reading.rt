@@ -1,5 +1,5 @@
 ghost use Rattle.std.specs.Prelude.{◌≡◌};
-ghost use Rattle.plan_json.specs.Reading.{first, both, or_flaw};
+ghost use Rattle.plan_json.specs.Reading.{first, both};
 
 /// What is wrong with a node, in the order in which flaws are told. The order is this project's own.
 #[derive(Clone, Copy, Debug, PartialEq, Eq)]

@@ -1,5 +1,5 @@
 -- How many nodes there are, and what is read of one list after another.
-use Rattle.std.proofs.Common.{◌<◌, ◌≤◌, drop, map, get_or, nat_lt, true, false, ap₂, ◌≡◌, ℕ, ◌+◌, List, [], ◌∷◌, ◌++◌, length, Result, Ok, Err, suc, refl, sym, ap, ◌∙◌, arith, append_assoc, length-append}
+use Rattle.std.proofs.Common.{◌<◌, ◌≤◌, drop, map, get_or, nat_lt, true, false, ◌≡◌, ℕ, ◌+◌, List, [], ◌∷◌, ◌++◌, length, Result, Ok, Err, suc, refl, sym, ap, ◌∙◌, arith, append_assoc, length-append}
 use Rattle.std.proofs.lemmas.Bool.Decides.{nat_tests}
 use Rattle.std.proofs.lemmas.List.{at_drop_more, at_drop_all, append-nil, length-map}
 use Rattle.serde_json.specs.Data.{Data}

@@ -45,6 +45,7 @@ keeps_right kind.Left = false
 keeps_right kind.Right = true
 keeps_right kind.Full = true
 
+-- a join with its kind before its other members
 abbrev pub join_op : JoinKind → List ℕ → List ℕ → List ℕ → List ℕ → List Expr → Option Tuple → Option Tuple → TreeOp
 join_op kind left right left_key right_key columns left_default right_default = op.Join left right left_key right_key columns kind left_default right_default
 

@@ -1,4 +1,4 @@
-use Rattle.std.specs.Prelude.{ℕ, Bool, true, false, ◌&&◌, ◌||◌, ◌==◌, nat_le, nat_lt, if◌then◌else◌, pos, List, length, codes, Option, Some, None, is_some, Result, Ok, Err}
+use Rattle.std.specs.Prelude.{ℕ, Bool, ◌&&◌, ◌||◌, ◌==◌, nat_le, nat_lt, if◌then◌else◌, List, length, codes, Option, Some, None, is_some, Result, Ok, Err}
 use Rattle.std.specs.Str.{is_utf8}
 use Rattle.serde_json.specs.Data.{Data}
 use Rattle.serde_json.specs.Find.{get}
@@ -53,6 +53,7 @@ outline_of d =
     (get (codes "result") d >>= name_of) >>= λ result.
     only_if (has_only form.Plan d && is_some (get (codes "version") d >>= number_of 1 1)) (record { segment = segment; nodes = nodes; result = result })
 
+-- a plan's fault
 abbrev pub refused : ℕ → PlanCode → Result PlanTree PlanFault
 refused node c = Err (fault.Refused node c)
 

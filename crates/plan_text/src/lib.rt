@@ -10,4 +10,6 @@ mod nodes;
 mod numbering;
 mod ops;
 pub mod plan;
+#[cfg(test)]
+mod tests;
 pub mod tree;

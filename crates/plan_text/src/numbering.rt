@@ -1,6 +1,5 @@
-ghost use Rattle.std.specs.Prelude.{◌≡◌, ◌≤◌, ◌+◌, [], ◌∷◌, ◌++◌, List, map, length, nat_lt, Ok, Err};
+ghost use Rattle.std.specs.Prelude.{◌≡◌, ◌≤◌, ◌+◌, [], ◌∷◌, map, length, nat_lt};
 ghost use Rattle.serde_json.specs.View.{view};
-ghost use Rattle.plan_text.specs.declared.tree.TreeNode.{TreeNode};
 ghost use Rattle.plan_text.specs.Nodes.{is_iteration, body_of, placed_in, placed, nodes_of};
 ghost use Rattle.plan_text.specs.Plans.{node_limit};
 ghost use Rattle.plan_text.specs.Told.{Tells, Adds};

@@ -1,6 +1,5 @@
 ghost use Rattle.std.specs.Prelude.{◌≡◌, IfOk};
 ghost use Rattle.serde_json.specs.View.{view};
-ghost use Rattle.flow_model.specs.declared.op.JoinKind.{JoinKind};
 ghost use Rattle.plan_json.specs.declared.rows.OpName.TheVariants as op_name;
 ghost use Rattle.plan_json.specs.Reading.{from_one, from_two, from_three, from_four, from_five, from_six, from_seven, from_nine};
 ghost use Rattle.plan_text.specs.declared.tree.TreeOp.TheVariants as tree_op;

@@ -1,4 +1,4 @@
-use Rattle.std.proofs.Common.{◌≡◌, ◌<◌, drop, map, nat_lt}
+use Rattle.std.proofs.Common.{◌≡◌, drop, map, nat_lt}
 use Rattle.serde_json.specs.View.{view}
 use Rattle.plan_text.specs.Plans.{node_limit}
 use Rattle.plan_text.proofs.NodeLemmas.{count_of}

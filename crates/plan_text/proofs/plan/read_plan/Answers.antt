@@ -1,4 +1,4 @@
-use Rattle.std.proofs.Common.{◌∙◌, Some, None, Result, sym, subst, arith, true, false}
+use Rattle.std.proofs.Common.{◌∙◌, Some, None, Result, sym, subst, arith}
 use Rattle.std.proofs.lemmas.Bool.{false≢true}
 use Rattle.serde_json.specs.View.{view}
 use Rattle.plan_text.specs.declared.tree.PlanTree.{PlanTree}
