@@ -1,0 +1,6 @@
+//! Records over pages.
+#![tactic(auto)]
+
+pub mod need_page;
+pub mod page;
+pub mod writer;
