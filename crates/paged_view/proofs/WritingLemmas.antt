@@ -157,3 +157,14 @@ text_span text mid new bytes piece at first is next =
 pub text_piece : (text mid new bytes : List ℕ) (at n : ℕ) → mid ≡ text ++ take at bytes → new ≡ mid ++ take n (take (length bytes - at) (drop at bytes)) → new ≡ text ++ take (at + n) bytes
 text_piece text mid new bytes at n first next =
     next ∙ ap (λ xs. xs ++ take n (take (length bytes - at) (drop at bytes))) first ∙ append_assoc text (take at bytes) (take n (take (length bytes - at) (drop at bytes))) ∙ ap (λ xs. text ++ (take at bytes ++ take n xs)) (take_rest bytes at) ∙ ap (λ xs. text ++ xs) (sym (take-add at n bytes))
+
+pub piece_within : (bytes : List ℕ) (at n : ℕ) → at ≤ length bytes → n ≤ length (take (length bytes - at) (drop at bytes)) → at + n ≤ length bytes
+piece_within bytes at n among within =
+    omega (arith, ap length (take_rest bytes at), length-drop at bytes)
+
+-- the text fits into the bodies
+pub text_fits : (ps : List Page) (room full fill : ℕ) (w : Writing) → record { room = room; pages = ps; text = text_in ps full fill } ≡ w → fill ≤ length (bodies (drop full ps)) → length w.text ≤ length (bodies w.pages)
+text_fits ps room full fill w is within =
+    let e : length w.text ≡ length (bodies (take full ps)) + fill = ap (λ (v : Writing). length v.text) (sym is) ∙ length-text_in ps full fill within in
+    let f : length (bodies w.pages) ≡ length (bodies (take full ps)) + length (bodies (drop full ps)) = ap (λ (v : Writing). length (bodies v.pages)) (sym is) ∙ ap length (bodies-split ps full) ∙ length-append (bodies (take full ps)) (bodies (drop full ps)) in
+    omega arith

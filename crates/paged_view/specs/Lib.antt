@@ -1,2 +1,4 @@
 pub mod Pages
 pub mod Writing
+pub mod Shares
+pub mod Seen

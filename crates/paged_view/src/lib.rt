@@ -3,4 +3,6 @@
 
 pub mod need_page;
 pub mod page;
+pub mod record_ref;
+pub mod share;
 pub mod writer;

@@ -1,7 +1,7 @@
 ghost use Rattle.std.specs.Prelude.{◌≡◌, ℕ, ◌+◌, ◌-◌, ◌^◌, ◌<◌, ◌≤◌, ◌↔◌, min, [], ◌∷◌, ◌++◌, length, take, drop, map, vec_len, vec_capacity, slice_set, IsTrue, IsSome, IfSome, OnSome, IfNone, IsErr, OnOk, OnErr, is_some, option_to_list};
 ghost use Rattle.flow_types.specs.Records.{framed};
 ghost use Rattle.segment_core.specs.Segments.{weigh};
-ghost use Rattle.paged_view.specs.Pages.{body, bodies, part, parts, page_at};
+ghost use Rattle.paged_view.specs.Pages.{body, bodies, used, parts, page_at};
 ghost use Rattle.paged_view.specs.Writing.{free, has_full, text_in, written};
 
 use crate::need_page::NeedPage;
@@ -71,17 +71,27 @@ impl PageWriter {
         ensures need { IsErr result ↔ (free self.old < 4 + length (X.seen row.now)) }
         ensures ok { OnOk result (self.new.text ≡ self.old.text ++ framed (X.seen row.now)) }
         ensures err { OnErr result (self.new ≡ self.old) }
+        ensures fits { length self.old.text ≤ length (bodies self.old.pages) }
         ensures room { self.new.room ≡ self.old.room }
         ensures size { length (bodies self.new.pages) ≡ length (bodies self.old.pages) }
         ensures segments { (h : ℕ → ℕ → ℕ) → weigh h self.new.pages ≡ weigh h self.old.pages }
     {
         let len = row.len();
-        if lacks(&self.pages, self.full, self.fill, 4 + len) {
+        if self.lacks(4 + len) {
             return Err(NeedPage);
         }
         self.put(&(len as u32).to_be_bytes());
         self.put_span(row);
         Ok(())
+    }
+
+    // Whether its pages have room for fewer bytes than these.
+    fn lacks(&self, need: usize) -> bool
+        requires { need < 2 ^ 33 }
+        ensures short { IsTrue result ↔ (free self.now < need) }
+        ensures fits { length self.now.text ≤ length (bodies self.now.pages) }
+    {
+        are_short(&self.pages, self.full, self.fill, need)
     }
 
     // Writes all bytes of a record behind the text.
@@ -136,6 +146,57 @@ impl PageWriter {
         count
     }
 
+    /// Takes the oldest page out where it is full: `None` exactly where the text doesn't reach that
+    /// page's end, or there is no page. Its header then says that all of its body is used, and the text
+    /// goes on behind what it took. It moves the pages behind it and no bytes.
+    pub fn full(&mut self) -> Option<Segment>
+        ensures some { is_some result ≡ has_full self.old.text self.old.pages }
+        ensures none { IfNone result (self.new ≡ self.old) }
+        ensures text { self.old.text ≡ parts (option_to_list result) ++ self.new.text }
+        ensures used { IfSome result (λ p. used p ≡ length (body p)) }
+        ensures holds { IfSome result (λ p. 0 < used p) }
+        ensures rest { OnSome result (self.new.pages ≡ drop 1 self.old.pages) }
+        ensures fits { length self.old.pages ≤ self.old.room }
+        ensures room { self.new.room ≡ self.old.room }
+        ensures segments { (h : ℕ → ℕ → ℕ) →
+            weigh h self.new.pages + weigh h (option_to_list result) ≡ weigh h self.old.pages }
+    {
+        let space = body_of(self.pages.first()?).len();
+        if self.full == 0 {
+            return None;
+        }
+        self.full -= 1;
+        Some(take_first(&mut self.pages, space))
+    }
+
+    /// Takes the oldest page out that holds bytes: `None` exactly where the text is empty. Its header
+    /// then says how many of its bytes are used: all of its body, or all of the text where that is less.
+    /// It moves the pages behind it and no bytes.
+    pub fn last(&mut self) -> Option<Segment>
+        ensures some { IsSome result ↔ (0 < length self.old.text) }
+        ensures none { IfNone result (self.new ≡ self.old) }
+        ensures text { self.old.text ≡ parts (option_to_list result) ++ self.new.text }
+        ensures used { IfSome result (λ p. used p ≡ min (length (body p)) (length self.old.text)) }
+        ensures holds { IfSome result (λ p. 0 < used p) }
+        ensures rest { OnSome result (self.new.pages ≡ drop 1 self.old.pages) }
+        ensures fits { length self.old.pages ≤ self.old.room }
+        ensures room { self.new.room ≡ self.old.room }
+        ensures segments { (h : ℕ → ℕ → ℕ) →
+            weigh h self.new.pages + weigh h (option_to_list result) ≡ weigh h self.old.pages }
+    {
+        let space = body_of(self.pages.first()?).len();
+        if self.full > 0 {
+            self.full -= 1;
+            return Some(take_first(&mut self.pages, space));
+        }
+        if self.fill == 0 {
+            return None;
+        }
+        let count = self.fill;
+        self.fill = 0;
+        Some(take_first(&mut self.pages, count))
+    }
+
     /// Takes the writer apart: all of its segments, in a purse of its room.
     pub fn end(self) -> Purse
         ensures { result ≡ record { room = self.room; pages = self.pages } }
@@ -152,7 +213,7 @@ impl PageWriter {
 
 // Whether the bodies of pages have room for fewer than `need` bytes, where `full` of them are full and
 // the next one has `fill` bytes.
-fn lacks(pages: &Vec<Segment>, full: usize, fill: usize, need: usize) -> bool
+fn are_short(pages: &Vec<Segment>, full: usize, fill: usize, need: usize) -> bool
     requires among { full ≤ vec_len pages.now }
     requires small { need + fill < 2 ^ 64 }
     ensures { IsTrue result ↔ (length (bodies (drop full pages.now.items)) < need + fill) }
@@ -183,4 +244,21 @@ fn write_piece(pages: &mut Vec<Segment>, full: usize, fill: usize, bytes: &[u8])
     let count = bytes.len().min(body_of(page).len() - fill);
     write_at(page, HEADER_SIZE + fill, &bytes[..count]);
     count
+}
+
+// Takes the first page out, with a header that says that `count` of its bytes are used.
+fn take_first(pages: &mut Vec<Segment>, count: usize) -> Segment
+    requires some { 0 < vec_len pages.old }
+    requires small { count < 2 ^ 32 }
+    ensures rest { pages.new.items ≡ drop 1 pages.old.items }
+    ensures len { vec_len pages.new + 1 ≡ vec_len pages.old }
+    ensures capacity { vec_capacity pages.new ≡ vec_capacity pages.old }
+    ensures body { body result ≡ body (page_at pages.old.items 0) }
+    ensures used { used result ≡ count }
+    ensures segments { (h : ℕ → ℕ → ℕ) →
+        weigh h pages.new.items + weigh h (result ∷ []) ≡ weigh h pages.old.items }
+{
+    let mut page = pages.remove(0);
+    set_used(&mut page, count);
+    page
 }

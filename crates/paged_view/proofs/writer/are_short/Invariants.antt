@@ -1,6 +1,6 @@
 use Rattle.std.proofs.Common.{◌≡◌, ◌+◌, length, take, drop}
 use Rattle.paged_view.specs.Pages.{bodies}
-use Rattle.paged_view.proofs.writer.lacks.Given as goal
+use Rattle.paged_view.proofs.writer.are_short.Given as goal
 
 abbrev pub invariant-loop-page : goal.invariant-loop-page
 invariant-loop-page l = record {

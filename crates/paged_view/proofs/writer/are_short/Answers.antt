@@ -2,7 +2,7 @@
 use Rattle.std.proofs.Common.{arith, ap, length}
 use Rattle.std.proofs.lemmas.Bool.{false≢true}
 use Rattle.paged_view.proofs.PageLemmas.{length-bodies-passed}
-use Rattle.paged_view.proofs.writer.lacks.Goals as goal
+use Rattle.paged_view.proofs.writer.are_short.Goals as goal
 
 pub returns-then-left-space : goal.returns-then-left-space
 returns-then-left-space c =
