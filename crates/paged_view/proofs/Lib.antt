@@ -1,3 +1,4 @@
 pub mod PageLemmas
 pub mod WritingLemmas
+pub mod SpanLemmas
 pub mod TakingLemmas
