@@ -2,3 +2,5 @@ pub mod Pages
 pub mod Writing
 pub mod Shares
 pub mod Seen
+pub mod Reading
+pub mod ReadingLends

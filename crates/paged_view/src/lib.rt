@@ -3,6 +3,7 @@
 
 pub mod need_page;
 pub mod page;
+pub mod reader;
 pub mod record_ref;
 pub mod share;
 pub mod writer;
