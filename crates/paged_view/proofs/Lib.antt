@@ -1,5 +1,6 @@
 pub mod PageLemmas
 pub mod WritingLemmas
 pub mod SpanLemmas
+pub mod RecordLemmas
 pub mod ReadingLemmas
 pub mod TakingLemmas

@@ -4,3 +4,5 @@ pub mod Shares
 pub mod Seen
 pub mod Reading
 pub mod ReadingLends
+pub mod RecordLaws
+pub mod Streams
