@@ -15,3 +15,6 @@ pub mod record_ref;
 pub mod share;
 pub mod stream;
 pub mod writer;
+
+#[cfg(test)]
+mod tests;
