@@ -13,7 +13,7 @@ size_given given later row behind small is some =
     let e : take 4 given ≡ to_be_bytes w32 (length row) = sym (take-append-le 4 given later some) ∙ ap (take 4) (is ∙ append_assoc (to_be_bytes w32 (length row)) row behind) ∙ take_at (to_be_bytes w32 (length row)) (row ++ behind) 4 refl in
     ap (from_be_bytes w32) e ∙ from_be_bytes-to_be_bytes_4 (length row) small
 
-length-framed : (row : List ℕ) → length (framed row) ≡ 4 + length row
+pub length-framed : (row : List ℕ) → length (framed row) ≡ 4 + length row
 length-framed row = length-append (to_be_bytes w32 (length row)) row
 
 -- where all of a framed record was given, it is followed by what else was given

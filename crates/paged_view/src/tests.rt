@@ -1,10 +1,10 @@
-ghost use Rattle.std.specs.Prelude.{◌≡◌, ℕ, ◌+◌, ◌≤◌, length};
+ghost use Rattle.std.specs.Prelude.{◌≡◌, ℕ, ◌+◌, ◌^◌, ◌<◌, ◌≤◌, length, All, option_to_list};
 ghost use Rattle.segment_core.specs.Segments.{weigh};
 
 use crate::reader::PageReader;
 use crate::writer::PageWriter;
 use flow_types::span::Span;
-use segment_core::{Pool, Purse};
+use segment_core::{Pool, Purse, Segment};
 use std::alloc::Global;
 use std::process::Abort;
 
@@ -49,9 +49,46 @@ fn turn_over(writer: &mut PageWriter, reader: &mut PageReader, all: bool)
     'spent: while let Some(page) = reader.spent() {
         writer.give(page);
     }
-    'full: while let Some(page) = if all { writer.last() } else { writer.full() } {
+    'full: while let Some(page) = taken(writer, all) {
         reader.give(page);
     }
+}
+
+// The writer's oldest page, if it is full or whatever it holds.
+fn taken(writer: &mut PageWriter, all: bool) -> Option<Segment>
+    ensures stays { writer.new.room ≡ writer.old.room }
+    ensures segments { (h : ℕ → ℕ → ℕ) →
+        weigh h writer.new.pages + weigh h (option_to_list result) ≡ weigh h writer.old.pages }
+    ensures count { length writer.new.pages + length (option_to_list result)
+        ≡ length writer.old.pages }
+{
+    if all { writer.last() } else { writer.full() }
+}
+
+// Appends a row, for which there is room.
+fn put(rt: &impl Abort, writer: &mut PageWriter, row: &&[u8])
+    requires { length row.now.now < 2 ^ 32 }
+    ensures stays { writer.new.room ≡ writer.old.room }
+    ensures segments { (h : ℕ → ℕ → ℕ) → weigh h writer.new.pages ≡ weigh h writer.old.pages }
+    ensures count { length writer.new.pages ≡ length writer.old.pages }
+{
+    writer.append(row).expect(rt, "no room");
+}
+
+// Gives the pages back that were read, and ends the reader.
+fn come_home(rt: &impl Abort, writer: &mut PageWriter, reader: PageReader)
+    requires { length writer.old.pages + length reader.pages ≤ writer.old.room }
+    ensures stays { writer.new.room ≡ writer.old.room }
+    ensures segments { (h : ℕ → ℕ → ℕ) →
+        weigh h writer.new.pages ≡ weigh h writer.old.pages + weigh h reader.pages }
+{
+    let mut reader = reader;
+    'spent: while let Some(page) = reader.spent() {
+        writer.give(page);
+    }
+    let (items, _room) = reader.end().into_items();
+    assert!(rt; items.is_empty(), "the reader kept a page");
+    items.destroy_empty();
 }
 
 // Reads rows from `done` on, as many as the reader has whole. How many were read then.
@@ -72,16 +109,19 @@ fn read_all(rt: &impl Abort, reader: &mut PageReader, rows: &[&[u8]], done: usiz
 
 // Carries rows through a writer and a reader, page by page. At the end no row is under way.
 fn carry(rt: &impl Abort, writer: &mut PageWriter, reader: &mut PageReader, rows: &[&[u8]])
+    requires rows { All (λ row. length row.now < 2 ^ 32) rows.now }
     requires writer_room { length writer.old.pages + length reader.old.pages ≤ writer.old.room }
     requires reader_room { length writer.old.pages + length reader.old.pages ≤ reader.old.room }
     ensures writer_stays { writer.new.room ≡ writer.old.room }
     ensures reader_stays { reader.new.room ≡ reader.old.room }
     ensures segments { (h : ℕ → ℕ → ℕ) → weigh h writer.new.pages + weigh h reader.new.pages
         ≡ weigh h writer.old.pages + weigh h reader.old.pages }
+    ensures count { length writer.new.pages + length reader.new.pages
+        ≡ length writer.old.pages + length reader.old.pages }
 {
     let mut done = 0;
     for row in rows {
-        writer.append(row).expect(rt, "no room");
+        put(rt, writer, row);
         turn_over(writer, reader, false);
         done = read_all(rt, reader, rows, done);
     }
@@ -92,13 +132,15 @@ fn carry(rt: &impl Abort, writer: &mut PageWriter, reader: &mut PageReader, rows
 }
 
 // The bytes from a place on, as many as there are, `len` at most.
-fn cut(bytes: &[u8], from: usize, len: usize) -> &[u8] {
+fn cut(bytes: &[u8], from: usize, len: u16) -> &[u8]
+    ensures { length result.now < 2 ^ 32 }
+{
     let tail = &bytes[from.min(bytes.len())..];
-    &tail[..len.min(tail.len())]
+    &tail[..usize::from(len).min(tail.len())]
 }
 
 // Carries rows of these lengths over 12 pages. All segments come home.
-fn carry_lens(rt: &impl Abort, alloc: Global, lens: &[usize]) {
+fn carry_lens(rt: &impl Abort, alloc: Global, lens: &[u16]) {
     let mut bytes = Vec::with_capacity(alloc, 17_000).expect(rt, "no memory");
     for i in 0..17_000u32 {
         bytes.push((i * 31 % 251) as u8).expect(rt, "no memory");
@@ -113,12 +155,7 @@ fn carry_lens(rt: &impl Abort, alloc: Global, lens: &[usize]) {
     let mut writer = PageWriter::new(purse);
     let mut reader = PageReader::new(empty);
     carry(rt, &mut writer, &mut reader, &rows);
-    while let Some(page) = reader.spent() {
-        writer.give(page);
-    }
-    let (items, _room) = reader.end().into_items();
-    assert!(rt; items.is_empty(), "the reader kept a page");
-    items.destroy_empty();
+    come_home(rt, &mut writer, reader);
     pool.restore(writer.end());
     assert_eq!(rt; pool.free(), pool.total());
     pool.close();
@@ -135,8 +172,8 @@ fn records_come_back_over_any_page_ends(rt: HostRuntime) {
 #[test]
 fn many_records_come_back_in_order(rt: HostRuntime) {
     let mut lens = Vec::with_capacity(rt.alloc(), 1_000).expect(&rt, "no memory");
-    for n in 0..1_000usize {
-        lens.push(n * n * 7 % 1_201).expect(&rt, "no memory");
+    for n in 0..1_000u32 {
+        lens.push((n * n * 7 % 1_201) as u16).expect(&rt, "no memory");
     }
     carry_lens(&rt, rt.alloc(), &lens);
 }
