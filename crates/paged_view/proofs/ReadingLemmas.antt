@@ -1,14 +1,14 @@
 -- Lemmas on a reader's place.
-use Rattle.std.proofs.Common.{◌≡◌, ℕ, ◌+◌, ◌-◌, ◌<◌, ◌≤◌, Bool, true, false, List, [], ◌∷◌, ◌++◌, length, take, drop, get_or, refl, sym, ap, ◌∙◌, arith, append-nil, length-append, take-append-drop, zero, suc, inl, inr, ◌==◌}
+use Rattle.std.proofs.Common.{◌≡◌, ℕ, ◌+◌, ◌-◌, ◌<◌, ◌≤◌, true, false, List, [], ◌∷◌, ◌++◌, length, take, drop, get_or, sym, ap, ◌∙◌, arith, append-nil, length-append, take-append-drop, zero, suc, inl, inr, ◌==◌}
 use Rattle.std.specs.Bool.{IsTrue}
-use Rattle.std.proofs.lemmas.List.{length-drop, length-take-le, take_at, take_rest, drop_at, drop-append-le, drop-drop, drop_more, get_or_default, get_or_past, get_or-drop, drop_all}
+use Rattle.std.proofs.lemmas.List.{length-drop, take_rest, drop-append-le, drop-drop, drop_more, get_or_default, get_or_past, get_or-drop}
 use Rattle.std.proofs.lemmas.Grind.{flat_map-append}
 use Rattle.std.proofs.lemmas.List.Folds.{length-flat_map-take}
 use Rattle.std.proofs.lemmas.Bool.{cases_lt}
 use Rattle.std.proofs.lemmas.Bool.Decides.{nat_tests}
 use Rattle.segment_core.specs.Segments.{Page}
 use Rattle.paged_view.specs.Pages.{part, parts, page_at, no_page}
-use Rattle.paged_view.specs.Reading.{Reading, IsReader, HasRecord, size_of, first_record, after_first, moved, has_spent, unread}
+use Rattle.paged_view.specs.Reading.{Reading, HasRecord, size_of, first_record, after_first, moved, has_spent, unread}
 use Rattle.paged_view.proofs.SpanLemmas.{drop-past}
 
 abbrev View : ℕ → List Page → ℕ → ℕ → ℕ → Reading
@@ -29,9 +29,9 @@ parts-drop ps i among = ap parts (drop_more ps i no_page among)
 -- a place in a page is a place in the pages from it on
 pub within_parts : (ps : List Page) (page off : ℕ) → off ≤ length (part (page_at ps page)) → off ≤ length (parts (drop page ps))
 within_parts ps page off within = elim (cases_lt page (length ps)) [
-    | inl below ↦ omega (arith, ap length (parts-drop ps page below), length-append (part (page_at ps page)) (parts (drop (page + 1) ps)))
-    | inr past ↦ omega (arith, ap (λ (p : Page). length (part p)) (get_or_past ps page no_page past))
-  ]
+  | inl below ↦ omega (arith, ap length (parts-drop ps page below), length-append (part (page_at ps page)) (parts (drop (page + 1) ps)))
+  | inr past ↦ omega (arith, ap (λ (p : Page). length (part p)) (get_or_past ps page no_page past))
+]
 
 -- the page at a place, as the code reads it
 pub part_here : (ps : List Page) (page : ℕ) (p : Page) (bytes : List ℕ) → page < length ps → p ≡ get_or ps page p → bytes ≡ part p → part (page_at ps page) ≡ bytes

@@ -1,11 +1,11 @@
 -- Lemmas on framed records.
-use Rattle.std.proofs.Common.{◌≡◌, ℕ, ◌+◌, ◌-◌, ◌^◌, ◌<◌, ◌≤◌, List, [], ◌∷◌, ◌++◌, length, take, drop, refl, sym, ap, ◌∙◌, arith, append_assoc, length-append, take-append-drop}
-use Rattle.std.proofs.lemmas.List.{length-drop, length-take-le, take_at, take-append-le, drop_at, drop-append-le, drop-drop}
+use Rattle.std.proofs.Common.{◌≡◌, ℕ, ◌+◌, ◌^◌, ◌<◌, ◌≤◌, List, ◌++◌, length, take, drop, refl, sym, ap, ◌∙◌, arith, append_assoc, length-append, take-append-drop}
+use Rattle.std.proofs.lemmas.List.{take_at, take-append-le, drop_at}
 use Rattle.std.proofs.lemmas.Nat.{from_be_bytes-to_be_bytes_4}
 use Rattle.std.specs.Int.{to_be_bytes, from_be_bytes, w32}
 use Rattle.flow_types.specs.Records.{framed}
-use Rattle.paged_view.specs.Reading.{HasRecord, size_of, first_record, after_first}
-use Rattle.paged_view.specs.RecordLaws.{ReadsFirst, ReadsAsAppended}
+use Rattle.paged_view.specs.Reading.{HasRecord, size_of}
+use Rattle.paged_view.specs.RecordLaws.{ReadsAsAppended}
 
 -- four bytes that were given are the record's length
 size_given : (given later row behind : List ℕ) → length row < 2 ^ 32 → given ++ later ≡ framed row ++ behind → 4 ≤ length given → size_of given ≡ length row

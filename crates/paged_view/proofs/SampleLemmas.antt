@@ -1,11 +1,11 @@
 -- Lemmas on the stream of a slice's records.
-use Rattle.std.proofs.Common.{◌≡◌, ℕ, ◌+◌, ◌^◌, ◌<◌, ◌≤◌, Bool, true, List, [], ◌∷◌, ◌++◌, length, drop, Option, Some, None, Err, refl, sym, ap, ◌∙◌, arith, append-nil, length-append, suc, All, false, ◌==◌}
+use Rattle.std.proofs.Common.{◌≡◌, ℕ, ◌+◌, ◌^◌, ◌<◌, ◌≤◌, Bool, true, List, [], ◌∷◌, length, drop, Option, Some, None, Err, refl, sym, ap, ◌∙◌, arith, append-nil, length-append, suc, All, false, ◌==◌}
 use Rattle.std.proofs.lemmas.Bool.Decides.{nat_tests}
 use Rattle.std.proofs.lemmas.List.{drop_at}
 use Rattle.flow_types.specs.Records.{framed, frames}
 use Rattle.flow_outside.specs.Blocks.{Blocks}
 use Rattle.flow_outside.specs.declared.failure.StreamFault.TheVariants as fault
-use Rattle.paged_view.specs.Reading.{HasRecord, first_record, after_first, size_of}
+use Rattle.paged_view.specs.Reading.{HasRecord, first_record, after_first}
 use Rattle.paged_view.specs.RecordLaws.{ReadsFirst}
 use Rattle.paged_view.specs.Streams.{HasStreamCause, KnowsRows, Advances}
 use Rattle.paged_view.proofs.RecordLemmas.{reads_first, length-framed}
@@ -37,9 +37,9 @@ rest_row text row rows holds has =
 pub advances : (text row rest : List ℕ) → HasRecord text → row ≡ first_record text → rest ≡ after_first text → (rows : List (List ℕ)) → Holds text rows → Advances rows true (Some row) (λ left. Holds rest left)
 advances text row rest has is behind [] holds = omega (arith, has, ap length holds.0)
 advances text row rest has is behind (r ∷ rows) holds = (
-    ap Some (is ∙ (first_row text r rows holds).first has),
-    (behind ∙ rest_row text r rows holds has, tail_small r rows holds.1)
-  )
+  ap Some (is ∙ (first_row text r rows holds).first has),
+  (behind ∙ rest_row text r rows holds has, tail_small r rows holds.1),
+)
 
 -- a text that begins with no record, and isn't empty, is known to hold no rows
 pub damaged : (count : ℕ) (told : Option Blocks) (text : List ℕ) → KnowsRows told (Holds text) → (HasRecord text → ⊥) → (length text ≡ 0 → ⊥) → HasStreamCause {T = Bool} count count told (Err (fault.Damaged 0))

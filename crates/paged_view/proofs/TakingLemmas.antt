@@ -1,10 +1,10 @@
 -- Lemmas on the page that a writer gives out.
-use Rattle.std.proofs.Common.{◌≡◌, ℕ, ◌+◌, ◌-◌, ◌<◌, ◌≤◌, min, Bool, true, false, List, [], ◌∷◌, ◌++◌, length, take, drop, get_or, refl, sym, ap, ◌∙◌, arith, append_assoc, append-nil, length-append, zero, suc, Option, Some, None, slice_get, inl, inr}
-use Rattle.std.proofs.lemmas.List.{length-take-le, take_at, take-append-le, take_all}
+use Rattle.std.proofs.Common.{◌≡◌, ℕ, ◌-◌, ◌<◌, ◌≤◌, min, true, false, List, [], ◌∷◌, ◌++◌, length, take, drop, sym, ap, ◌∙◌, arith, append_assoc, append-nil, length-append, zero, suc, Some, slice_get, inl, inr}
+use Rattle.std.proofs.lemmas.List.{length-take-le, take-append-le, take_all}
 use Rattle.std.proofs.lemmas.Bool.{cases_lt}
 use Rattle.std.proofs.lemmas.Bool.Decides.{nat_tests}
 use Rattle.segment_core.specs.Segments.{Page}
-use Rattle.paged_view.specs.Pages.{body, bodies, used, part, page_at, no_page}
+use Rattle.paged_view.specs.Pages.{body, bodies, used, part, page_at}
 use Rattle.paged_view.specs.Writing.{Writing, has_full, text_in}
 
 abbrev View : ℕ → List Page → ℕ → ℕ → Writing
@@ -13,7 +13,7 @@ View room ps full fill = record { room = room; pages = ps; text = text_in ps ful
 -- where no page is full, the text ends before the first page's end
 short : (qs : List Page) (q : Page) (fill : ℕ) → (0 < fill → fill < length (body q)) → 0 < length (body q) → length (text_in (q ∷ qs) 0 fill) < length (body q)
 short qs q fill under some =
-    let within : fill < length (body q) = elim (cases_lt 0 fill) [ | inl more ↦ under more | inr none ↦ omega arith ] in
+    let within : fill < length (body q) = elim (cases_lt 0 fill) [ inl more ↦ under more | inr none ↦ omega arith ] in
     let e : take fill (body q ++ bodies qs) ≡ take fill (body q) = take-append-le fill (body q) (bodies qs) (omega arith) in
     omega (arith, ap length e, length-take-le fill (body q) (omega arith))
 
@@ -63,14 +63,6 @@ length_full room full fill (q ∷ qs) w is some among =
 pub first_is : (ps : List Page) (p : Page) (space : List ℕ) → Some p ≡ slice_get ps 0 → space ≡ body p → space ≡ body (page_at ps 0)
 first_is [] p space at reads = cc
 first_is (q ∷ qs) p space at reads = reads ∙ ap body (let same : p ≡ q = cc in same)
-
--- the text where no page is full is of the page under way
-text_short : (qs : List Page) (q : Page) (fill : ℕ) → fill ≤ length (body q) → text_in (q ∷ qs) 0 fill ≡ take fill (body q)
-text_short qs q fill within = take-append-le fill (body q) (bodies qs) within
-
--- what the first page is where the text is left short of its end
-pub used_short : (r : Page) (n m : ℕ) (xs : List ℕ) → body r ≡ xs → used r ≡ n → n ≡ m → n ≤ length xs → used r ≡ min (length (body r)) m
-used_short r n m xs is uses same within = omega (arith, ap length is, uses, same, within)
 
 -- where a page is full, all of its body is used
 pub used_full : (r : Page) (space : List ℕ) (ps : List Page) (m : ℕ) → body r ≡ body (page_at ps 0) → space ≡ body (page_at ps 0) → used r ≡ length space → length (body (page_at ps 0)) ≤ m → used r ≡ min (length (body r)) m

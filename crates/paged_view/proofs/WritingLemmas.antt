@@ -1,6 +1,6 @@
 -- Lemmas on a writer's text.
-use Rattle.std.proofs.Common.{◌≡◌, ℕ, ◌+◌, ◌-◌, ◌<◌, ◌≤◌, List, [], ◌∷◌, ◌++◌, length, take, drop, set, get_or, refl, sym, ap, ◌∙◌, arith, append_assoc, append-nil, length-append, take-add, take-append-drop, min}
-use Rattle.std.proofs.lemmas.List.{length-take, length-drop, length-take-le, take_at, take-append-le, drop-append-le, length-set, take-set, drop-set, get_or-set_same, drop_all, get_or_past, get_or_default, take_rest}
+use Rattle.std.proofs.Common.{◌≡◌, ℕ, ◌+◌, ◌-◌, ◌<◌, ◌≤◌, List, ◌++◌, length, take, drop, set, get_or, refl, sym, ap, ◌∙◌, arith, append_assoc, append-nil, length-append, take-add, take-append-drop, min}
+use Rattle.std.proofs.lemmas.List.{length-take, length-drop, length-take-le, take_at, take-append-le, length-set, take-set, drop-set, get_or-set_same, drop_all, get_or_past, get_or_default, take_rest}
 use Rattle.segment_core.specs.Segments.{Page, weigh}
 use Rattle.std.proofs.lemmas.Bool.{cases_lt}
 use Rattle.std.proofs.Common.{inl, inr}
@@ -26,15 +26,15 @@ free_is ps room full fill w is within =
 -- the page under way has room for what stands in it
 pub within_rest : (ps : List Page) (full fill : ℕ) → (0 < fill → fill < length (body (page_at ps full))) → full ≤ length ps → fill ≤ length (bodies (drop full ps))
 within_rest ps full fill under among = elim (cases_lt full (length ps)) [
-    | inl below ↦ elim (cases_lt 0 fill) [
-      | inl some ↦ omega (arith, under some, ap length (bodies-drop ps full below), length-append (body (page_at ps full)) (bodies (drop (full + 1) ps)))
-      | inr none ↦ omega arith
-    ]
-    | inr past ↦ elim (cases_lt 0 fill) [
-      | inl some ↦ absurd (omega (arith, under some, ap (λ (p : Page). length (body p)) (get_or_past ps full no_page past)))
-      | inr none ↦ omega arith
-    ]
+  | inl below ↦ elim (cases_lt 0 fill) [
+    | inl some ↦ omega (arith, under some, ap length (bodies-drop ps full below), length-append (body (page_at ps full)) (bodies (drop (full + 1) ps)))
+    | inr none ↦ omega arith
   ]
+  | inr past ↦ elim (cases_lt 0 fill) [
+    | inl some ↦ absurd (omega (arith, under some, ap (λ (p : Page). length (body p)) (get_or_past ps full no_page past)))
+    | inr none ↦ omega arith
+  ]
+]
 
 -- bytes were written behind the text, into the page under way
 pub text_in-written : (ps : List Page) (full fill : ℕ) (bs : List ℕ) → full < length ps → fill + length bs ≤ length (body (page_at ps full)) → 0 < length bs → text_in (set ps full (written (page_at ps full) (16 + fill) bs)) full (fill + length bs) ≡ text_in ps full fill ++ bs
@@ -107,9 +107,9 @@ put_is ps qs full fill n bytes among room some count put = record {
 -- where there is room, a page is under way
 pub among_is : (ps : List Page) (room full fill : ℕ) (w : Writing) → record { room = room; pages = ps; text = text_in ps full fill } ≡ w → (0 < fill → fill < length (body (page_at ps full))) → full ≤ length ps → 0 < free w → full < length ps
 among_is ps room full fill w is under among some = elim (cases_lt full (length ps)) [
-    | inl below ↦ below
-    | inr past ↦ absurd (omega (arith, free_is ps room full fill w is (within_rest ps full fill under among), ap (λ qs. length (bodies qs)) (drop_all full ps past)))
-  ]
+  | inl below ↦ below
+  | inr past ↦ absurd (omega (arith, free_is ps room full fill w is (within_rest ps full fill under among), ap (λ qs. length (bodies qs)) (drop_all full ps past)))
+]
 
 -- the body of the page under way, as the code reads it
 pub body_here : (ps : List Page) (full : ℕ) (p : Page) (space : List ℕ) → full < length ps → p ≡ get_or ps full p → space ≡ body p → body (page_at ps full) ≡ space
@@ -121,7 +121,7 @@ pub put_known : (ps qs : List Page) (room full fill n : ℕ) (w : Writing) (byte
 put_known ps qs room full fill n w bytes space p is under among some enough at reads page count put =
     let here : full < length ps = among_is ps room full fill w is under among (omega arith) in
     let e : length (body (page_at ps full)) ≡ length space = ap length (body_here ps full p space here at reads) in
-    let room : fill < length (body (page_at ps full)) = elim (cases_lt 0 fill) [ | inl more ↦ under more | inr none ↦ omega arith ] in
+    let room : fill < length (body (page_at ps full)) = elim (cases_lt 0 fill) [ inl more ↦ under more | inr none ↦ omega arith ] in
     (put_is ps qs full fill n bytes here room some count put, e)
 
 -- the text after a piece, and the same where the page became full

@@ -1,5 +1,5 @@
 -- Pages: segments that hold framed records behind a header. The rule is this project's own.
-use Rattle.std.specs.Prelude.{ℕ, List, [], length, take, drop, slice_index_or}
+use Rattle.std.specs.Prelude.{ℕ, List, [], take, drop, slice_index_or}
 use Rattle.std.specs.List.{flat_map}
 use Rattle.std.specs.Int.{from_be_bytes, w32}
 use Rattle.segment_core.specs.Segments.{Page}

@@ -1,5 +1,5 @@
 -- What a reader of pages holds.
-use Rattle.std.specs.Prelude.{◌≡◌, ℕ, ◌+◌, ◌^◌, ◌<◌, ◌≤◌, Bool, false, List, [], ◌∷◌, length, take, drop, nat_le}
+use Rattle.std.specs.Prelude.{ℕ, ◌+◌, ◌^◌, ◌<◌, ◌≤◌, Bool, false, List, [], ◌∷◌, length, take, drop, nat_le}
 use Rattle.std.specs.Int.{from_be_bytes, w32}
 use Rattle.segment_core.specs.Segments.{Page}
 use Rattle.paged_view.specs.Pages.{part, parts, page_at}

@@ -1,5 +1,5 @@
 -- What a writer of pages holds.
-use Rattle.std.specs.Prelude.{◌≡◌, ℕ, ◌+◌, ◌-◌, ◌<◌, ◌≤◌, Bool, false, List, [], ◌∷◌, ◌++◌, length, take, drop, nat_le}
+use Rattle.std.specs.Prelude.{ℕ, ◌+◌, ◌-◌, ◌<◌, ◌≤◌, Bool, false, List, [], ◌∷◌, ◌++◌, length, take, drop, nat_le}
 use Rattle.segment_core.specs.Segments.{Page}
 use Rattle.segment_core.specs.declared.segment.TheConstants.{LARGEST_SIZE}
 use Rattle.paged_view.specs.Pages.{body, bodies, page_at}

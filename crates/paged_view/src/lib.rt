@@ -12,11 +12,10 @@ pub mod order;
 pub mod page;
 pub mod reader;
 pub mod record_ref;
-pub mod share;
-pub mod stream;
-pub mod writer;
-
-#[cfg(test)]
-mod tests;
 #[cfg(test)]
 mod samples;
+pub mod share;
+pub mod stream;
+#[cfg(test)]
+mod tests;
+pub mod writer;

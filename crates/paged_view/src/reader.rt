@@ -30,10 +30,10 @@ impl Model for PageReader {
     ghost Value = { Reading };
 
     ghost view = { λ r. record {
-        room = r.room;
-        pages = r.pages.items;
-        head = take r.pending (unread r.pages.items r.page r.off);
-        text = unread r.pages.items r.page (r.off + r.pending);
+      room = r.room;
+      pages = r.pages.items;
+      head = take r.pending (unread r.pages.items r.page r.off);
+      text = unread r.pages.items r.page (r.off + r.pending);
     } };
 
     ghost invariant = { λ r.
@@ -196,7 +196,7 @@ fn whole_len(pages: &Vec<Segment>, place: Place) -> Option<usize>
     ensures whole { MatchOption result
         (HasRecord (unread pages.now.items place.page place.off) → ⊥)
         (λ len. HasRecord (unread pages.now.items place.page place.off)
-            × (len ≡ size_of (unread pages.now.items place.page place.off))) }
+        × (len ≡ size_of (unread pages.now.items place.page place.off))) }
     ensures small { IfSome result (λ len. len < 2 ^ 32) }
 {
     if !reaches(pages, place, 4) {

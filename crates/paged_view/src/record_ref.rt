@@ -1,4 +1,4 @@
-ghost use Rattle.std.specs.Prelude.{◌≡◌, ◌+◌, ◌-◌, ◌<◌, ◌≤◌, ◌++◌, ℕ, List, length, take, drop, slice_index, MatchResult};
+ghost use Rattle.std.specs.Prelude.{◌≡◌, ◌+◌, ◌-◌, ◌<◌, ◌≤◌, ◌++◌, length, take, drop, MatchResult};
 ghost use Rattle.paged_view.specs.Shares.{shares};
 
 use crate::share::{Share, bytes_of};
@@ -87,7 +87,7 @@ impl Span for RecordRef<'_> {
 fn find(segments: &[Segment], share: Share, from: usize) -> Result<&[u8], usize>
     ensures { MatchResult result
         (λ piece. (0 < length piece.now)
-            × (piece.now ≡ take (length piece.now) (drop from (shares share segments.now))))
+        × (piece.now ≡ take (length piece.now) (drop from (shares share segments.now))))
         (λ left. from ≡ length (shares share segments.now) + left) }
 {
     let mut left = from;

@@ -1,7 +1,9 @@
 //! A small stream and a small order, which meet their traits.
-ghost use Rattle.std.specs.Prelude.{◌≡◌, ℕ, ◌^◌, ◌<◌, [], true, Option, Some, None, List, length, All, MatchOption, option_map, replicate, ⊤};
+ghost use Rattle.std.specs.Prelude.{◌≡◌, ℕ, ◌^◌, ◌<◌, [], true, Option, Some, None, length, All, MatchOption, OnOk, option_map, replicate, ⊤};
 ghost use Rattle.std.specs.Cmp.Lexicographic.{slice_cmp};
 ghost use Rattle.std.specs.Ordering.{nat_cmp};
+ghost use Rattle.segment_core.specs.Segments.{weigh};
+ghost use Rattle.paged_view.specs.Streams.{KnowsRows};
 ghost use Rattle.flow_types.specs.Records.{frames};
 ghost use Rattle.paged_view.specs.Reading.{HasRecord, first_record, after_first};
 
@@ -116,4 +118,25 @@ impl RecordOrder for Bytewise {
     ghost total = { λ order. nat_list_cmp_total };
 
     ghost prefix_first = { λ order a b _ _ less. Prim.cc };
+}
+
+/// Advances a stream to its end.
+pub fn run_out<D: Spill, R: RecordStream<D>>(
+    stream: &mut R,
+    disk: &mut D,
+) -> Result<(), StreamFault>
+    requires ready { R.IsReady stream.old }
+    requires known { KnowsRows (D.told disk.old) (R.left stream.old (D.told disk.old)) }
+    ensures end { OnOk result (KnowsRows (D.told disk.new) (λ rows. (rows ≡ []) × R.left stream.new (D.told disk.new) rows)) }
+    ensures shows { R.shown stream.new ≡ None }
+    ensures segments { (h : ℕ → ℕ → ℕ) → weigh h (R.held stream.new) ≡ weigh h (R.held stream.old) }
+    ensures tells { D.told disk.new ≡ D.told disk.old }
+{
+    'records: loop {
+        match stream.advance(disk) {
+            Ok(true) => (),
+            Ok(false) => return Ok(()),
+            Err(fault) => return Err(fault),
+        }
+    }
 }

@@ -1,4 +1,4 @@
-ghost use Rattle.std.specs.Prelude.{◌≡◌, ℕ, ◌<◌, ◌≤◌, Bool, true, List, Option, Some, None, Ok, IfOk, MatchResult, is_some, option_map};
+ghost use Rattle.std.specs.Prelude.{◌≡◌, ℕ, ◌<◌, ◌≤◌, true, List, Option, None, Ok, IfOk, MatchResult, is_some, option_map};
 ghost use Rattle.flow_outside.specs.Blocks.{Blocks};
 ghost use Rattle.segment_core.specs.Segments.{Page, weigh};
 ghost use Rattle.paged_view.specs.Streams.{HasStreamCause, KnowsRows, Advances};
@@ -42,7 +42,7 @@ pub trait RecordStream<D: Spill> {
         ensures ready { IsReady self.new }
         ensures rows { IfOk result (λ more. (rows : List (List ℕ)) →
             left self.old (D.told disk.old) rows →
-                Advances rows more (shown self.new) (left self.new (D.told disk.new))) }
+            Advances rows more (shown self.new) (left self.new (D.told disk.new))) }
         ensures shows { MatchResult result
             (λ more. is_some (shown self.new) ≡ more)
             (λ _. shown self.new ≡ None) }

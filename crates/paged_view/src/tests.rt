@@ -173,7 +173,8 @@ fn records_come_back_over_any_page_ends(rt: HostRuntime) {
 fn many_records_come_back_in_order(rt: HostRuntime) {
     let mut lens = Vec::with_capacity(rt.alloc(), 1_000).expect(&rt, "no memory");
     for n in 0..1_000u32 {
-        lens.push((n * n * 7 % 1_201) as u16).expect(&rt, "no memory");
+        lens.push((n * n * 7 % 1_201) as u16)
+            .expect(&rt, "no memory");
     }
     carry_lens(&rt, rt.alloc(), &lens);
 }

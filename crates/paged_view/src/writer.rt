@@ -1,4 +1,4 @@
-ghost use Rattle.std.specs.Prelude.{◌≡◌, ℕ, ◌+◌, ◌-◌, ◌^◌, ◌<◌, ◌≤◌, ◌↔◌, min, [], ◌∷◌, ◌++◌, length, take, drop, map, vec_len, vec_capacity, slice_set, IsTrue, IsSome, IfSome, OnSome, IfNone, IsErr, OnOk, OnErr, is_some, option_to_list};
+ghost use Rattle.std.specs.Prelude.{◌≡◌, ℕ, ◌+◌, ◌-◌, ◌^◌, ◌<◌, ◌≤◌, ◌↔◌, min, [], ◌∷◌, ◌++◌, length, take, drop, vec_len, vec_capacity, slice_set, IsTrue, IsSome, IfSome, OnSome, IfNone, IsErr, OnOk, OnErr, is_some, option_to_list};
 ghost use Rattle.flow_types.specs.Records.{framed};
 ghost use Rattle.segment_core.specs.Segments.{weigh};
 ghost use Rattle.paged_view.specs.Pages.{body, bodies, used, parts, page_at};
@@ -26,9 +26,9 @@ impl Model for PageWriter {
     ghost Value = { Writing };
 
     ghost view = { λ w. record {
-        room = w.room;
-        pages = w.pages.items;
-        text = text_in w.pages.items w.full w.fill;
+      room = w.room;
+      pages = w.pages.items;
+      text = text_in w.pages.items w.full w.fill;
     } };
 
     ghost invariant = { λ w.

@@ -1,5 +1,5 @@
 -- The pages that were passed and this one have the bytes.
-use Rattle.std.proofs.Common.{◌∙◌, arith, refl, ap, length, sym}
+use Rattle.std.proofs.Common.{◌∙◌, arith, refl, ap, length}
 use Rattle.std.proofs.lemmas.List.{take_all}
 use Rattle.paged_view.specs.Pages.{parts}
 use Rattle.paged_view.proofs.ReadingLemmas.{length-parts-passed, length-unread, within_parts, reaches_end}

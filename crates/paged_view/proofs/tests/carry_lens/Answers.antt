@@ -1,5 +1,5 @@
 -- What comes home weighs what was leased.
-use Rattle.std.proofs.Common.{ℕ, arith, ap}
+use Rattle.std.proofs.Common.{arith, ap}
 use Rattle.std.proofs.lemmas.Result.{IfOk-at_ok}
 use Rattle.segment_core.specs.Segments.{Held, weigh}
 use Rattle.segment_core.specs.Ledger.{MayReturn}
