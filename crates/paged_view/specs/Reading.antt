@@ -41,8 +41,9 @@ has_spent text (p ∷ ps) = nat_le (length text) (length (parts ps))
 abbrev pub unread : List Page → ℕ → ℕ → List ℕ
 unread ps page off = drop off (parts (drop page ps))
 
--- What is true of every reader: its list of pages, of `len`, has space reserved for its room, its place is one of its
--- pages, or behind them, and the record that it gave last stands there.
+-- What is true of every reader: its list of pages, of `len`, has space reserved for its room, its place is in one of its
+-- pages, or behind them, and the record that it gave last stands there, `pending` bytes long. The numbers of its place
+-- are far from the end of their type.
 pub record IsReader (pages : List Page) (len capacity room page off pending : ℕ) : Type 0 where
   pub fits : len ≤ room
   pub reserved : room ≤ capacity

@@ -26,7 +26,7 @@ abbrev pub text_in : List Page → ℕ → ℕ → List ℕ
 text_in ps full fill = bodies (take full ps) ++ take fill (bodies (drop full ps))
 
 -- What is true of every writer: its list of pages, of `len`, has space reserved for its room, and the page under way
--- isn't full.
+-- isn't full: of page `full` the first `fill` bytes are written, and those before it are full.
 pub record IsWriter (pages : List Page) (len capacity room full fill : ℕ) : Type 0 where
   pub fits : len ≤ room
   pub reserved : room ≤ capacity
