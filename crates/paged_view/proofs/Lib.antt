@@ -1,0 +1,7 @@
+pub mod PageLemmas
+pub mod WritingLemmas
+pub mod SpanLemmas
+pub mod RecordLemmas
+pub mod SampleLemmas
+pub mod ReadingLemmas
+pub mod TakingLemmas
