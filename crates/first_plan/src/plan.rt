@@ -2,7 +2,6 @@ ghost use Rattle.std.specs.Prelude.{◌≡◌, ◌<◌, IfOk, IsSomeAnd, [], ◌
 ghost use Rattle.serde_json.specs.View.{view};
 ghost use Rattle.serde_json.specs.Find.{at};
 ghost use Rattle.flow_model.specs.Algebra.{first_source};
-ghost use Rattle.flow_model.specs.Built.{IsBuilt};
 ghost use Rattle.flow_model.specs.declared.plan.Plan.{Plan};
 ghost use Rattle.first_plan.specs.Json.{seen, is_length, items_in};
 ghost use Rattle.first_plan.specs.FirstForm.{is_segment, segment_of, first_form, plan_of, source_node, filter_node, expr_of, IsFirstPlan};
@@ -43,7 +42,6 @@ pub enum FirstPlanFault {
 /// The plan of the first form that the bytes are. `OtherForm` comes exactly where they are none.
 pub fn first_plan(alloc: Global, bytes: &[u8]) -> Result<Plan, FirstPlanFault>
     ensures ok { IfOk result (λ plan. IsFirstPlan bytes.now plan) }
-    ensures built { IfOk result IsBuilt }
     ensures source { IfOk result (λ plan. IsSomeAnd (first_source plan) (λ source. 0 < source.number)) }
     ensures refused { result ≡ Err FirstPlanFault.OtherForm → (plan : Plan) → IsFirstPlan bytes.now plan → ⊥ }
 {

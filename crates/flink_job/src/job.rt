@@ -1,7 +1,6 @@
 ghost use Rattle.std.specs.Prelude.{◌≡◌, ◌<◌, IsSomeAnd};
 ghost use Rattle.flow_outside.specs.Told.{IfTold};
 ghost use Rattle.flow_model.specs.Algebra.{first_source};
-ghost use Rattle.flow_model.specs.Built.{IsBuilt};
 ghost use Rattle.flink_job.specs.Outcome.{Ends, IsServed, IsUnboundFault};
 ghost use Rattle.flink_job.specs.Request.{asked};
 
@@ -43,7 +42,6 @@ fn run_plan<S: Shelf, K: Sink>(
     out: &mut K,
 ) -> Option<Fault>
     requires living { S.living shelf.old ≡ 0 }
-    requires built { IsBuilt plan.now }
     requires source { IsSomeAnd (first_source plan.now) (λ source. 0 < source.number) }
     ensures { IfTold (S.told shelf.old request.entry.plan.now) (λ bytes. IsServed bytes plan.now)
         → Ends

@@ -1,7 +1,6 @@
 ghost use Rattle.std.specs.Prelude.{◌≡◌, ℕ, ◌<◌, ◌≤◌, List, IfOk, IfErr, OnOk, IsSomeAnd};
 ghost use Rattle.flow_outside.specs.Told.{IfTold};
 ghost use Rattle.flow_model.specs.Algebra.{first_source};
-ghost use Rattle.flow_model.specs.Built.{IsBuilt};
 ghost use Rattle.flink_job.specs.Outcome.{IsServed, EndsReadingPlan};
 
 use crate::fault::Fault;
@@ -23,7 +22,6 @@ pub fn read_plan<S: Shelf>(alloc: Global, shelf: &mut S, name: &str) -> Result<P
     ensures read { OnOk result (S.living shelf.new ≡ S.living shelf.old) }
     ensures served { IfOk result
         (λ plan. IfTold (S.told shelf.old name.now) (λ bytes. IsServed bytes plan)) }
-    ensures built { IfOk result IsBuilt }
     ensures source { IfOk result (λ plan. IsSomeAnd (first_source plan) (λ source. 0 < source.number)) }
     ensures refused { IfErr result
         (λ fault. EndsReadingPlan (S.told shelf.old name.now) (S.faults_at shelf.old name.now)

@@ -1,16 +1,15 @@
 ghost use Rattle.std.specs.Prelude.{◌≡◌, ◌≤◌, [], ◌∷◌, IfSome};
 ghost use Rattle.flow_model.specs.Algebra.{eval};
-ghost use Rattle.flow_model.specs.Built.{IsBuilt};
 ghost use Rattle.delim_io.specs.ResultText.{text_of};
 ghost use Rattle.flink_job.specs.Outcome.{EndsPrinting};
 
 use crate::fault::Fault;
 use delim_io::result_text::{WriteFault, write_rows};
-use flow_model::eval::eval_rows;
 use flow_model::plan::Plan;
 use flow_model::rows::{Inputs, Rows};
 use flow_outside::sink::Sink;
 use flow_types::row::{Row, sort_rows};
+use plain_eval::eval::eval_rows;
 use std::alloc::Global;
 
 /// Writes the text of a plan's result over the rows of its one source, in tuple order; `None` where
@@ -21,7 +20,6 @@ pub fn print_result<K: Sink>(
     rows: Vec<Row>,
     out: &mut K,
 ) -> Option<Fault>
-    requires { IsBuilt plan.now }
     ensures later { K.fault_count out.old ≤ K.fault_count out.new }
     ensures ends { EndsPrinting (text_of (eval plan.now (rows.items ∷ []))) (K.told out.old)
         (K.told out.new) (K.fault_count out.old) (K.fault_count out.new) result }

@@ -7,4 +7,3 @@ pub mod Segments
 pub mod Full
 pub mod Schemas
 pub mod Rules
-pub mod Built

@@ -31,7 +31,7 @@ pub struct Node {
     pub schema: Schema,
 }
 
-/// An accepted plan. The reader of plans keeps what is said here of its fields; `eval_rows` doesn't
+/// An accepted plan. The reader of plans keeps what is said here of its fields; the algebra doesn't
 /// rest on it.
 #[derive(Debug, Drop)]
 pub struct Plan {
