@@ -27,11 +27,12 @@ pub fn encode_into(out: &mut [u8], schema: &Schema, row: &Row) -> Option<usize>
     Some(size)
 }
 
-/// The bytes of a row's record, or `None` exactly where the row doesn't fit the schema.
+/// The bytes of a row's record, at most 16,384, or `None` exactly where the row doesn't fit the schema.
 /// The values are gone over once, and no byte of a text is read.
 pub fn record_size(schema: &Schema, row: &Row) -> Option<usize>
     ensures fits { is_some result ≡ fits schema.now row.now }
     ensures size { IfSome result (λ n. n ≡ size row.now) }
+    ensures small { IfSome result (λ n. n ≤ record_limit) }
 {
     size_of(schema.fields(), row.values())
 }
