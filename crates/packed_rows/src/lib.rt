@@ -5,4 +5,6 @@
 //! in their order.
 #![tactic(auto)]
 
+mod frame;
 pub mod laws;
+pub mod rows;
