@@ -1,5 +1,5 @@
 -- A record's Long against a number.
-use Rattle.std.proofs.Common.{◌≡◌, ℕ, ◌<◌, Bool, true, false, List, length, take, drop, get_or, slice_get, Some, refl, sym, ◌∙◌, ap, subst, arith, cond, ℤ, int_lt}
+use Rattle.std.proofs.Common.{◌≡◌, ℕ, Bool, true, false, List, take, drop, get_or, slice_get, Some, refl, sym, ◌∙◌, ap, arith, cond, ℤ, int_lt}
 use Rattle.std.specs.Int.{from_be_bytes, cast_signed, w64}
 use Rattle.std.specs.Ordering.{int_cmp, is_gt}
 use Rattle.std.specs.declared.cmp.Ordering.TheVariants.{Less, Equal, Greater}

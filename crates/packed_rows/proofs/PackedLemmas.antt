@@ -1,14 +1,14 @@
 -- Laws of packed rows.
-use Rattle.std.proofs.Common.{◌≡◌, ℕ, zero, suc, ◌+◌, ◌<◌, ◌≤◌, ◌^◌, List, [], ◌∷◌, ◌++◌, length, take, drop, map, All, refl, sym, ◌∙◌, ap, subst, arith, append_assoc, append-nil, length-append, length-drop, IsTrue}
+use Rattle.std.proofs.Common.{◌≡◌, ℕ, zero, suc, ◌+◌, ◌<◌, ◌≤◌, List, [], ◌∷◌, ◌++◌, length, take, drop, map, refl, sym, ◌∙◌, ap, subst, arith, append-nil, length-append, IsTrue}
 use Rattle.std.specs.Int.{to_be_bytes, from_be_bytes, w32}
 use Rattle.std.proofs.lemmas.Nat.{from_be_bytes-to_be_bytes_4}
-use Rattle.std.proofs.lemmas.List.{take_at, drop_at, map-append, take-append-drop, nil_from_length}
+use Rattle.std.proofs.lemmas.List.{take_at, drop_at, map-append}
 use Rattle.std.proofs.lemmas.List.Elements.{All-nil, All-cons, All-head, All-tail, All-append}
 use Rattle.std.proofs.lemmas.List.Concat.{flat_map-append}
 use Rattle.flow_types.specs.Limits.{record_limit}
 use Rattle.flow_types.specs.Types.{Fields, is_schema}
 use Rattle.flow_types.specs.Tuples.{Tuple}
-use Rattle.flow_types.specs.Records.{form, framed, frames, size, tuple_of, IsTupleOf, IsRecord}
+use Rattle.flow_types.specs.Records.{form, framed, frames, tuple_of, IsTupleOf, IsRecord}
 use Rattle.record_codec.proofs.RecordLemmas.{form_read, tuple_small, is_record_of_read}
 use Rattle.packed_rows.specs.Packed.{first_len, first_record, behind_first, rows_up_to, rows_in, IsPackedOf, IsPacked, PacksReadAsWritten}
 

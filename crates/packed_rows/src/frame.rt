@@ -1,8 +1,8 @@
-ghost use Rattle.std.specs.Prelude.{◌≡◌, ◌+◌, ◌<◌, ◌≤◌, ◌++◌, length, take, drop, slice_get, IsTrue, OnOk, OnErr, Some};
+ghost use Rattle.std.specs.Prelude.{◌≡◌, ◌+◌, ◌-◌, ◌≤◌, [], ◌++◌, if◌then◌else◌, length, take, drop, filter, slice_get, IsTrue, OnOk, OnErr, Some};
 ghost use Rattle.flow_types.specs.Limits.{record_limit};
 ghost use Rattle.flow_types.specs.Types.{fits};
 ghost use Rattle.flow_types.specs.Records.{form, framed, size, tuple_of, IsRecord, IsTupleOf};
-ghost use Rattle.packed_rows.specs.Packed.{first_len, first_record, behind_first, is_above, IsPacked};
+ghost use Rattle.packed_rows.specs.Packed.{first_len, first_record, behind_first, rows_in, is_above, IsPacked};
 
 use flow_outside::failure::Memory;
 use flow_types::field_type::FieldType;
@@ -67,4 +67,47 @@ pub(crate) fn is_above(record: &[u8], schema: &Schema, field: usize, number: i64
 {
     let place = field_at(&record, schema, field);
     long_at(&record, place.start) > number
+}
+
+/// Moves the records down whose Long in a field is greater than a number, over those where it isn't, and
+/// gives how many bytes they take. A record that stays where it is isn't copied; the bytes behind the
+/// records that are kept have no meaning.
+pub(crate) fn move_down(bytes: &mut [u8], schema: &Schema, field: usize, number: i64) -> usize
+    requires packed { IsPacked schema.now bytes.old }
+    requires long { slice_get schema.now field ≡ Some FieldType.Long }
+    ensures rows { rows_in schema.now (take result bytes.new)
+        ≡ filter (is_above field number) (rows_in schema.now bytes.old) }
+    ensures packed { IsPacked schema.now (take result bytes.new) }
+{
+    let mut kept = 0;
+    let mut at = 0;
+    while at < bytes.len() {
+        let (record, behind) = split_first(&bytes[at..]);
+        let end = bytes.len() - behind.len();
+        let keep = is_above(record, schema, field, number);
+        kept = keep_if(keep, bytes, kept, at, end);
+        at = end;
+    }
+    kept
+}
+
+/// Moves the bytes from `at` to `end` down behind those that are kept, where they are to be kept too, and
+/// gives the place behind what is kept then.
+fn keep_if(keep: bool, bytes: &mut [u8], kept: usize, at: usize, end: usize) -> usize
+    requires lower { kept ≤ at }
+    requires order { at ≤ end }
+    requires inside { end ≤ length bytes.old }
+    ensures front { take result bytes.new
+        ≡ take kept bytes.old ++ (if keep then take (end - at) (drop at bytes.old) else []) }
+    ensures rest { drop end bytes.new ≡ drop end bytes.old }
+    ensures lower { result ≤ end }
+{
+    if !keep {
+        return kept;
+    }
+    if kept == at {
+        return end;
+    }
+    bytes.copy_within(at..end, kept);
+    kept + (end - at)
 }

@@ -8,3 +8,5 @@
 mod frame;
 pub mod laws;
 pub mod rows;
+#[cfg(test)]
+mod tests;

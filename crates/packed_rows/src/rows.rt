@@ -2,7 +2,7 @@ ghost use Rattle.std.specs.Prelude.{◌≡◌, ℕ, [], ◌∷◌, ◌++◌, fil
 ghost use Rattle.flow_types.specs.Types.{Fields, fits, is_schema};
 ghost use Rattle.packed_rows.specs.Packed.{rows_in, is_above, IsPacked};
 
-use crate::frame::{push_frame, split_first};
+use crate::frame::{move_down, push_frame, split_first};
 use flow_outside::failure::Memory;
 use flow_types::field_type::FieldType;
 use flow_types::row::Row;
@@ -49,6 +49,20 @@ impl PackedRows {
     {
         push_frame(&mut self.bytes, schema, row)?;
         Ok(())
+    }
+
+    /// Keeps the rows whose Long in a field is greater than a number, in their order. Each record is looked
+    /// at in place; those that are kept move down over those that aren't, and nothing is allocated or
+    /// decoded.
+    pub fn keep_above(&mut self, schema: &Schema, field: usize, number: i64)
+        requires packed { IsPacked schema.now self.old }
+        requires long { slice_get schema.now field ≡ Some FieldType.Long }
+        ensures rows { rows_in schema.now self.new
+            ≡ filter (is_above field number) (rows_in schema.now self.old) }
+        ensures packed { IsPacked schema.now self.new }
+    {
+        let len = move_down(&mut self.bytes, schema, field, number);
+        self.bytes.truncate(len);
     }
 
     /// The rows, decoded, in their order. The cost is that of decoding each, and of a list that grows.

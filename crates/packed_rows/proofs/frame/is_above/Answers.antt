@@ -1,4 +1,4 @@
-use Rattle.std.proofs.Common.{rules, ◌≡◌, ◌∙◌, ap, ℤ, int_lt, FitsSigned, to_z, of_z, to_z-of_z, w64}
+use Rattle.std.proofs.Common.{rules, ◌∙◌, ap, ℤ, int_lt, FitsSigned, to_z, of_z, to_z-of_z, w64}
 use Rattle.packed_rows.proofs.AboveLemmas.{above_read}
 use Rattle.packed_rows.proofs.frame.is_above.Goals as goal
 
