@@ -57,7 +57,7 @@ kept_more fields p all now new kept at after end keep before some place test fro
         let first : HasFirst fields (drop at now) = has_first fields (drop at now) before.rest (omega (arith, length-drop at now)) in
         let t : Tuple = tuple_of fields (first_record (drop at now)) in
         subst (λ (bytes : List ℕ). Holds fields (rows_in fields (take kept now) ++ t ∷ []) (take kept now ++ bytes)) (sym same)
-        (holds_more fields t (take kept now) before.front first.first.tuple)
+        (holds_more fields t (take kept now) before.front first.row)
     hold false same =
         subst (λ (bytes : List ℕ). Holds fields (rows_in fields (take kept now) ++ []) bytes) (sym (append-nil (take kept now)))
         (record { packed = before.front; read = sym (append-nil (rows_in fields (take kept now))) })

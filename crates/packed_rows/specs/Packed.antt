@@ -1,11 +1,11 @@
-use Rattle.std.specs.Prelude.{◌≡◌, ℕ, zero, suc, ◌+◌, Bool, List, [], ◌∷◌, length, take, drop, map, ℤ, All, IsTrue}
+use Rattle.std.specs.Prelude.{◌≡◌, ℕ, zero, suc, ◌+◌, ◌^◌, ◌<◌, Bool, List, [], ◌∷◌, length, take, drop, map, ℤ, All}
 use Rattle.std.specs.Int.{from_be_bytes, w32}
 use Rattle.std.specs.Ordering.{is_gt}
 use Rattle.flow_types.specs.declared.value.Value.TheVariants as value
 use Rattle.flow_types.specs.Values.{value_cmp}
-use Rattle.flow_types.specs.Types.{Fields, is_schema}
+use Rattle.flow_types.specs.Types.{Fields}
 use Rattle.flow_types.specs.Tuples.{Tuple, field}
-use Rattle.flow_types.specs.Records.{form, frames, tuple_of, IsTupleOf}
+use Rattle.flow_types.specs.Records.{form, size, frames, tuple_of, IsTupleOf}
 
 -- Rows that stand packed in bytes: their records behind their lengths, one after the other. The layout is this
 -- project's own.
@@ -32,13 +32,18 @@ rows_up_to (suc n) fields (b ∷ bs) = tuple_of fields (first_record (b ∷ bs))
 abbrev pub rows_in : Fields → List ℕ → List Tuple
 rows_in fields bytes = rows_up_to (length bytes) fields bytes
 
--- Bytes are these rows of a schema, packed.
+-- A row that can be packed: a tuple of the fields, whose record has a length that four bytes can write. Each tuple
+-- of a schema is one, since its record has at most 16,384 bytes.
+pub record IsRowOf (fields : Fields) (t : Tuple) : Type 0 where
+  pub tuple : IsTupleOf fields t
+  pub short : size t < 2 ^ 32
+
+-- Bytes are these rows, packed.
 pub record IsPackedOf (fields : Fields) (rows : List Tuple) (bytes : List ℕ) : Type 0 where
-  pub schema : IsTrue (is_schema fields)
-  pub tuples : All (IsTupleOf fields) rows
+  pub rows_of : All (IsRowOf fields) rows
   pub formed : bytes ≡ frames (map form rows)
 
--- Bytes are some rows of a schema, packed. They are then those that they are read as, and no others.
+-- Bytes are some rows, packed. They are then those that they are read as, and no others.
 abbrev pub IsPacked : Fields → List ℕ → Type 0
 IsPacked fields bytes = IsPackedOf fields (rows_in fields bytes) bytes
 

@@ -2,7 +2,7 @@ ghost use Rattle.std.specs.Prelude.{◌≡◌, ◌+◌, ◌-◌, ◌≤◌, [], 
 ghost use Rattle.flow_types.specs.Limits.{record_limit};
 ghost use Rattle.flow_types.specs.Types.{fits};
 ghost use Rattle.flow_types.specs.Records.{form, framed, size, tuple_of, IsRecord, IsTupleOf};
-ghost use Rattle.packed_rows.specs.Packed.{first_len, first_record, behind_first, rows_in, is_above, IsPacked};
+ghost use Rattle.packed_rows.specs.Packed.{first_len, first_record, behind_first, rows_in, is_above, IsRowOf, IsPacked};
 
 use flow_outside::failure::Memory;
 use flow_types::field_type::FieldType;
@@ -16,7 +16,7 @@ use record_codec::place::field_at;
 pub(crate) fn push_frame(bytes: &mut Vec<u8>, schema: &Schema, row: &Row) -> Result<(), Memory>
     requires { IsTrue (fits schema.now row.now) }
     ensures pushed { OnOk result (bytes.new.items ≡ bytes.old.items ++ framed (form row.now)) }
-    ensures tuple { OnOk result (IsTupleOf schema.now row.now) }
+    ensures row { OnOk result (IsRowOf schema.now row.now) }
     ensures unchanged { OnErr result (bytes.new.items ≡ bytes.old.items) }
 {
     let Some(size) = record_size(schema, row) else {

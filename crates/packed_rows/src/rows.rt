@@ -1,5 +1,5 @@
 ghost use Rattle.std.specs.Prelude.{◌≡◌, ℕ, [], ◌∷◌, ◌++◌, filter, slice_get, IsTrue, IfOk, OnOk, OnErr, Some};
-ghost use Rattle.flow_types.specs.Types.{Fields, fits, is_schema};
+ghost use Rattle.flow_types.specs.Types.{Fields, fits};
 ghost use Rattle.packed_rows.specs.Packed.{rows_in, is_above, IsPacked};
 
 use crate::frame::{move_down, push_frame, split_first};
@@ -30,7 +30,7 @@ impl PackedRows {
     /// No rows, of any schema; nothing is allocated.
     pub fn new(alloc: Global) -> PackedRows
         ensures empty { result ≡ [] }
-        ensures packed { (fields : Fields) → IsTrue (is_schema fields) → IsPacked fields result }
+        ensures packed { (fields : Fields) → IsPacked fields result }
     {
         PackedRows {
             bytes: Vec::new(alloc),
