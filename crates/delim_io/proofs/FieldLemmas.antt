@@ -1,5 +1,5 @@
 -- Steps of reading the text of a field.
-use Rattle.std.proofs.Common.{◌≡◌, ℕ, ◌≤◌, List, length, Bool, true, false, ◌&&◌, if◌then◌else◌, ◌∷◌, [], ℤ, Option, option_map, Some, None, nat_le, refl, sym, ◌∙◌, ap, inl, inr, IsUtf8}
+use Rattle.std.proofs.Common.{◌≡◌, ℕ, ◌≤◌, List, length, Bool, true, false, ◌&&◌, if◌then◌else◌, ◌∷◌, [], ℤ, Option, option_map, Some, None, nat_le, refl, ◌∙◌, ap, inl, inr, IsUtf8}
 use Rattle.std.specs.Str.{is_utf8}
 use Rattle.std.proofs.lemmas.Bool.{le-leb, and_right, and_from, cases_Bool}
 use Rattle.std.proofs.lemmas.Str.{is_utf8-from_IsUtf8, IsUtf8-from_is_utf8}

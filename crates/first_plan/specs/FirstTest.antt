@@ -1,4 +1,4 @@
-use Rattle.std.specs.Prelude.{◌≡◌, ℕ, Bool, List, [], ◌∷◌, filter, slice_get, Some, IfSome}
+use Rattle.std.specs.Prelude.{◌≡◌, Bool, List, [], ◌∷◌, filter, slice_get, Some, IfSome}
 use Rattle.std.specs.Ordering.{is_gt}
 use Rattle.flow_types.specs.declared.value.Value.TheVariants as value
 use Rattle.flow_types.specs.declared.field_type.FieldType.TheVariants as type

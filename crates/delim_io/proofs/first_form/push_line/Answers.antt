@@ -1,4 +1,4 @@
-use Rattle.std.proofs.Common.{ap, sym, subst, IsTrue}
+use Rattle.std.proofs.Common.{subst, IsTrue}
 use Rattle.flow_types.specs.Types.{Fields, fits}
 use Rattle.delim_io.proofs.LineLemmas.{line_fits}
 use Rattle.delim_io.proofs.first_form.push_line.Goals as goal
