@@ -7,7 +7,7 @@ use Rattle.std.proofs.lemmas.List.Elements.{All-nil, All-cons, All-head, All-tai
 use Rattle.std.proofs.lemmas.List.Concat.{flat_map-append}
 use Rattle.flow_types.specs.Types.{Fields}
 use Rattle.flow_types.specs.Tuples.{Tuple}
-use Rattle.flow_types.specs.Records.{form, framed, frames, tuple_of, IsTupleOf, IsRecord}
+use Rattle.flow_types.specs.Records.{form, framed, frames, tuple_of, IsRecord}
 use Rattle.record_codec.proofs.RecordLemmas.{form_read, is_record_of_read}
 use Rattle.packed_rows.specs.Packed.{first_len, first_record, behind_first, rows_up_to, rows_in, IsRowOf, IsPackedOf, IsPacked, PacksReadAsWritten}
 

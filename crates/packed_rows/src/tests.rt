@@ -1,3 +1,5 @@
+ghost use Rattle.std.specs.Prelude.{◌≡◌, slice_get, IfOk, Some};
+
 use crate::rows::PackedRows;
 use flow_types::field_type::FieldType;
 use flow_types::row::{Row, compare_rows};
@@ -17,26 +19,38 @@ fn row(alloc: Global, word: &str, number: i64) -> Result<Row, Fail> {
     Ok(Row::of(values))
 }
 
+/// The schema of such rows.
+fn schema(alloc: Global) -> Result<Schema, Fail>
+    ensures { IfOk result (λ s. slice_get s 1 ≡ Some FieldType.Long) }
+{
+    let fields = vec![in alloc; FieldType::Str(5), FieldType::Long]?;
+    match Schema::of(fields) {
+        Some(schema) => Ok(schema),
+        None => Err(Fail::from("no schema")),
+    }
+}
+
 /// Rows packed, filtered where there is a number that theirs have to exceed, and unpacked.
 fn kept(
     alloc: Global,
+    schema: &Schema,
     words: &[(&str, i64)],
     above: Option<i64>,
-) -> Result<Option<Vec<Row>>, Fail> {
-    let fields = vec![in alloc; FieldType::Str(5), FieldType::Long]?;
-    let schema = Schema::of(fields).ok_or("no schema")?;
+) -> Result<Option<Vec<Row>>, Fail>
+    requires { slice_get schema.now 1 ≡ Some FieldType.Long }
+{
     let mut packed = PackedRows::new(alloc);
     for (word, number) in words {
         let row = row(alloc, word, *number)?;
         if !schema.fits(&row) {
             return Ok(None);
         }
-        packed.push(&schema, &row)?;
+        packed.push(schema, &row)?;
     }
     if let Some(number) = above {
-        packed.keep_above(&schema, 1, number);
+        packed.keep_above(schema, 1, number);
     }
-    Ok(Some(packed.unpack(alloc, &schema)?))
+    Ok(Some(packed.unpack(alloc, schema)?))
 }
 
 /// Whether rows are these.
@@ -55,6 +69,7 @@ fn are(alloc: Global, rows: &[Row], words: &[(&str, i64)]) -> Result<bool, Fail>
 
 #[test]
 fn rows_are_packed_and_kept(rt: HostRuntime) -> Result<(), Fail> {
+    let schema = schema(rt.alloc())?;
     let words = [
         ("bob", 2),
         ("", -1),
@@ -70,10 +85,10 @@ fn rows_are_packed_and_kept(rt: HostRuntime) -> Result<(), Fail> {
         (Some(299), &[("ann", 300)]),
     ];
     for (above, want) in cases {
-        let rows = kept(rt.alloc(), &words, above)?.ok_or("a row that doesn't fit")?;
+        let rows = kept(rt.alloc(), &schema, &words, above)?.ok_or("a row that doesn't fit")?;
         assert!(rt; are(rt.alloc(), rows.as_slice(), want)?, "{above:?}");
     }
-    let none = kept(rt.alloc(), &[], Some(0))?.ok_or("no rows")?;
+    let none = kept(rt.alloc(), &schema, &[], Some(0))?.ok_or("no rows")?;
     assert!(rt; none.is_empty());
     Ok(())
 }
