@@ -6,8 +6,9 @@ use Rattle.std.proofs.lemmas.List.Elements.{All-get_or}
 use Rattle.std.proofs.lemmas.List.Sums.{AllPass-from_list_all}
 use Rattle.std.proofs.lemmas.List.Splits.{length-slice_split}
 use Rattle.flow_types.specs.declared.field_type.FieldType.{FieldType}
-use Rattle.flow_types.specs.Types.{Fields, is_bounded}
+use Rattle.flow_types.specs.Types.{Fields, is_bounded, fits}
 use Rattle.flow_types.specs.Tuples.{Tuple}
+use Rattle.delim_io.proofs.FieldLemmas.{tuple_fits}
 use Rattle.delim_io.specs.Fields.{first_and_others, field_value, tuple_of}
 use Rattle.delim_io.specs.Input.{input_limit, is_plain_byte, is_plain_line, parts_at, tuple_of_line, tuples_of_parts, rows_of}
 
@@ -99,3 +100,11 @@ module _ (fields : Fields) (delimiter : ℕ) (bytes : List ℕ) (tuples : List T
       let left : tuples_of_parts fields delimiter (parts_at 10 rest) ≡ None =
       rw (first_line fields delimiter rest line after cut, refused) (none_first (tuples_of_parts fields delimiter (parts_at 10 after))) in
       no_rows fields delimiter bytes (passed ∙ ap (onto tuples) left)
+
+-- the tuple of a line fits the fields
+pub line_fits : (fields : Fields) (delimiter : ℕ) (line : List ℕ) (t : Tuple) → tuple_of_line fields delimiter line ≡ Some t → IsTrue (fits fields t)
+line_fits fields delimiter line t e = by (is_plain_line line) e
+  where
+    by : (b : Bool) → (if b then tuple_of fields (parts_at delimiter line) else None) ≡ Some t → IsTrue (fits fields t)
+    by true e = tuple_fits fields (parts_at delimiter line) t e
+    by false e = cc

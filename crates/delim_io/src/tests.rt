@@ -1,6 +1,6 @@
 ghost use Rattle.std.specs.Prelude.{◌≡◌, Some};
 
-use crate::first_form::read_rows;
+use crate::first_form::read_packed;
 use crate::input_fault::InputFault;
 use crate::result_text::{WriteFault, write_rows};
 use flow_outside::failure::Failed;
@@ -65,8 +65,8 @@ fn lines(
     let Some(schema) = Schema::of(Vec::from_slice(alloc, fields)?) else {
         return Err(Fail::from(WriteFault::Write));
     };
-    let rows = match read_rows(alloc, bytes, &schema, delimiter) {
-        Ok(rows) => rows,
+    let rows = match read_packed(alloc, bytes, &schema, delimiter) {
+        Ok(rows) => rows.unpack(alloc, &schema)?,
         Err(InputFault::NotBuilt) => return Ok(Vec::from_slice(alloc, b"NotBuilt")?),
         Err(InputFault::Memory) => return Err(Fail::from(InputFault::Memory)),
     };

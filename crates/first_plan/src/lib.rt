@@ -1,7 +1,8 @@
 //! Plans of the first form: one source and one filter on it that compares a Long field with a
 //! number. It stands on the plan's types, and on JSON as `serde_json` reads it.
 //!
-//! Its one promise: `first_plan` gives the plan exactly where the bytes are a plan of that form.
+//! Its one promise: `first_plan` gives the plan exactly where the bytes are a plan of that form, and with
+//! it the test that its rows have to pass.
 #![tactic(auto)]
 
 mod json;
@@ -10,4 +11,5 @@ mod plan;
 mod source;
 mod test;
 
-pub use plan::{FirstPlanFault, first_plan};
+pub use plan::{FilterPlan, FirstPlanFault, first_plan};
+pub use test::FieldTest;

@@ -4,6 +4,7 @@ ghost use Rattle.serde_json.specs.Find.{at};
 ghost use Rattle.flow_model.specs.Algebra.{first_source};
 ghost use Rattle.flow_model.specs.declared.plan.Plan.{Plan};
 ghost use Rattle.first_plan.specs.Json.{seen, is_length, items_in};
+ghost use Rattle.first_plan.specs.FirstTest.{FiltersBy};
 ghost use Rattle.first_plan.specs.FirstForm.{is_segment, segment_of, first_form, plan_of, source_node, filter_node, expr_of, IsFirstPlan};
 
 use crate::json::{has_items, is_text, whole};
@@ -29,6 +30,13 @@ pub struct FirstPlan {
     pub filter: Filter,
 }
 
+/// A plan in memory whose result is its source's rows that pass one test.
+#[derive(Debug, Drop)]
+pub struct FilterPlan {
+    pub plan: Plan,
+    pub test: FieldTest,
+}
+
 /// Why no plan was read.
 #[derive(Clone, Copy, Debug, PartialEq, Eq, Error)]
 pub enum FirstPlanFault {
@@ -39,10 +47,12 @@ pub enum FirstPlanFault {
     OtherForm,
 }
 
-/// The plan of the first form that the bytes are. `OtherForm` comes exactly where they are none.
-pub fn first_plan(alloc: Global, bytes: &[u8]) -> Result<Plan, FirstPlanFault>
-    ensures ok { IfOk result (λ plan. IsFirstPlan bytes.now plan) }
-    ensures source { IfOk result (λ plan. IsSomeAnd (first_source plan) (λ source. 0 < source.number)) }
+/// The plan of the first form that the bytes are, and the test of its filter. `OtherForm` comes exactly
+/// where they are none.
+pub fn first_plan(alloc: Global, bytes: &[u8]) -> Result<FilterPlan, FirstPlanFault>
+    ensures ok { IfOk result (λ made. IsFirstPlan bytes.now made.plan) }
+    ensures source { IfOk result (λ made. IsSomeAnd (first_source made.plan) (λ source. 0 < source.number)) }
+    ensures test { IfOk result (λ made. FiltersBy made.plan made.test) }
     ensures refused { result ≡ Err FirstPlanFault.OtherForm → (plan : Plan) → IsFirstPlan bytes.now plan → ⊥ }
 {
     let value = match Value::from_slice(alloc, bytes) {
@@ -52,10 +62,13 @@ pub fn first_plan(alloc: Global, bytes: &[u8]) -> Result<Plan, FirstPlanFault>
     };
     match form_of(alloc, &value) {
         Ok(None) => Err(FirstPlanFault::OtherForm),
-        Ok(Some(plan)) => match plan_of(alloc, plan) {
-            Ok(plan) => Ok(plan),
-            Err(Memory) => Err(FirstPlanFault::Memory),
-        },
+        Ok(Some(form)) => {
+            let test = form.filter.test;
+            match plan_of(alloc, form) {
+                Ok(plan) => Ok(FilterPlan { plan, test }),
+                Err(Memory) => Err(FirstPlanFault::Memory),
+            }
+        }
         Err(Memory) => Err(FirstPlanFault::Memory),
     }
 }

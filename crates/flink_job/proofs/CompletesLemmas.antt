@@ -1,17 +1,15 @@
 -- Where all is well, no cause of a fault is there but want of memory.
-use Rattle.std.proofs.Common.{◌≡◌, ◌≢◌, ℕ, zero, suc, ◌⊎◌, inl, inr, List, Option, Some, None, refl, sym, ap, ◌∙◌, subst}
+use Rattle.std.proofs.Common.{◌≡◌, ℕ, zero, suc, ◌⊎◌, inl, inr, List, Option, Some, None, refl, sym, ap, ◌∙◌, subst}
 use Rattle.flow_outside.specs.Told.{IfTold}
-use Rattle.flow_types.specs.Tuples.{Tuple}
 use Rattle.flow_model.specs.declared.plan.Node.{Node}
 use Rattle.flow_model.specs.declared.plan.Plan.{Plan}
 use Rattle.flow_model.specs.Algebra.{first_source, delimiter_of}
 use Rattle.delim_io.specs.Input.{rows_of}
 use Rattle.flink_job.specs.declared.fault.Fault.{Fault}
 use Rattle.flink_job.specs.declared.fault.Fault.TheVariants as fault
-use Rattle.flink_job.specs.Words.{Asked, asked_of}
 use Rattle.flink_job.specs.Lines.{status_of}
 use Rattle.flink_job.specs.Effects.{Reads, Writes}
-use Rattle.flink_job.specs.Outcome.{IsServed, IsUnserved, IsWell, IsOutcome, Ends, EndsAsked, JobCompletes}
+use Rattle.flink_job.specs.Outcome.{IsServed, IsUnserved, IsWell, Ends, EndsAsked, JobCompletes}
 
 some_same : {X : Type 0} (x y : X) → Some x ≡ Some y → x ≡ y
 some_same x y e = cc

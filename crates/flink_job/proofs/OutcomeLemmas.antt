@@ -1,5 +1,5 @@
 -- How the ends of the steps are the ends of a run.
-use Rattle.std.proofs.Common.{◌≡◌, ◌≢◌, ℕ, zero, suc, ◌<◌, ◌≤◌, inl, inr, List, [], ◌∷◌, length, Option, Some, None, Result, Ok, Err, OnOk, OnErr, false, eqb, codes, refl, sym, ap, ◌∙◌, subst, arith}
+use Rattle.std.proofs.Common.{◌≡◌, ◌≢◌, ℕ, zero, suc, ◌<◌, ◌≤◌, inl, inr, List, [], ◌∷◌, length, filter, Option, Some, None, Result, Ok, Err, OnOk, OnErr, false, eqb, codes, refl, sym, ap, ◌∙◌, subst, arith}
 use Rattle.std.specs.List.{concat}
 use Rattle.std.proofs.lemmas.List.{take_all}
 use Rattle.std.proofs.lemmas.Bool.Decides.{nat_tests}
@@ -9,13 +9,17 @@ use Rattle.flow_outside.specs.Files.{ReadsAll}
 use Rattle.flow_outside.specs.Told.{IfTold, with_text, Appends, AppendsProperPrefix}
 use Rattle.flow_model.specs.declared.plan.Node.{Node}
 use Rattle.flow_model.specs.declared.plan.Plan.{Plan}
+use Rattle.flow_types.specs.Tuples.{Tuple}
+use Rattle.first_plan.specs.declared.test.FieldTest.{FieldTest}
 use Rattle.first_plan.specs.FirstForm.{IsFirstPlan}
+use Rattle.first_plan.specs.FirstTest.{passes, FiltersBy}
+use Rattle.delim_io.specs.ResultText.{text_of}
 use Rattle.flink_job.specs.declared.fault.Fault.{Fault}
 use Rattle.flink_job.specs.declared.fault.Fault.TheVariants as fault
 use Rattle.flink_job.specs.Words.{Asked}
 use Rattle.flink_job.specs.Effects.{Reads, Writes, WritesNothing, Reports}
 use Rattle.flink_job.specs.Lines.{read_text}
-use Rattle.flink_job.specs.Outcome.{plan_limit, IsServed, IsUnserved, Prepared, Ends, EndsReadingInput}
+use Rattle.flink_job.specs.Outcome.{plan_limit, IsServed, IsUnserved, Prepared, HasRows, HasText, Ends, EndsReadingInput, EndsPrinting}
 
 -- the bytes that were read are a plan that is served
 pub served_from : (told : Option (List ℕ)) (bytes : List ℕ) (plan : Plan) → ReadsAll told plan_limit bytes → IsFirstPlan bytes plan → IfTold told (λ all. IsServed all plan)
@@ -104,3 +108,22 @@ pub read_text_input : (name : List ℕ) (source : ℕ) → source ≢ 0 → conc
 read_text_input name source other =
     let e : eqb source 0 ≡ false = grind (arith, nat_tests) in
     rw e refl
+
+-- the end of printing what a plan's test lets through is the end of the run
+pub ends_printed : (reads : Reads) (out : Writes) (a : Asked) (plan : Plan) (source : Node) (test : FieldTest) (rows : List Tuple) (end : Option Fault)
+    → Prepared reads.told a plan source → HasRows reads.told a source rows → FiltersBy plan test → reads.living ≡ 0
+    → EndsPrinting (text_of (filter (passes test) rows)) out.old out.new out.before out.after end → Ends reads out a end
+ends_printed reads out a plan source test rows end prepared input filters read ends = by end ends
+  where
+    has : HasText reads.told a (text_of (filter (passes test) rows))
+    has = record { plan = plan; source = source; rows = rows; prepared = prepared; input = input; is = ap text_of (sym (filters.gives rows)) }
+
+    by : (e : Option Fault) → EndsPrinting (text_of (filter (passes test) rows)) out.old out.new out.before out.after e → Ends reads out a e
+    by None h = record { text = text_of (filter (passes test) rows); is = has; written = h; read = read }
+    by (Some fault.Usage) h = absurd h
+    by (Some (fault.PlanRefused node why)) h = absurd h
+    by (Some (fault.Unbound name)) h = absurd h
+    by (Some (fault.ReadFault number)) h = absurd h
+    by (Some (fault.InputRefused number line place why)) h = absurd h
+    by (Some fault.WriteFault) h = record { text = text_of (filter (passes test) rows); is = has; written = h.0; rose = h.1 }
+    by (Some fault.Memory) h = inr (record { text = text_of (filter (passes test) rows); is = has; written = h })

@@ -1,6 +1,7 @@
 ghost use Rattle.std.specs.Prelude.{◌≡◌, ◌<◌, IsSomeAnd};
 ghost use Rattle.flow_outside.specs.Told.{IfTold};
 ghost use Rattle.flow_model.specs.Algebra.{first_source};
+ghost use Rattle.first_plan.specs.FirstTest.{FiltersBy};
 ghost use Rattle.flink_job.specs.Outcome.{Ends, IsServed, IsUnboundFault};
 ghost use Rattle.flink_job.specs.Request.{asked};
 
@@ -9,7 +10,8 @@ use crate::input::read_input;
 use crate::plan::read_plan;
 use crate::print::print_result;
 use crate::words::Request;
-use flow_model::plan::{Node, Plan};
+use first_plan::FilterPlan;
+use flow_model::plan::Node;
 use flow_outside::shelf::Shelf;
 use flow_outside::sink::Sink;
 use std::alloc::Global;
@@ -29,27 +31,28 @@ pub fn run_request<S: Shelf, K: Sink>(
 {
     match read_plan(alloc, shelf, request.plan) {
         Err(fault) => Some(fault),
-        Ok(plan) => run_plan(alloc, request, &plan, shelf, out),
+        Ok(made) => run_plan(alloc, request, &made, shelf, out),
     }
 }
 
-/// Runs a plan that was read.
+/// Runs a plan that was read: its source's rows are read, those that pass its test are printed.
 fn run_plan<S: Shelf, K: Sink>(
     alloc: Global,
     request: Request<'_>,
-    plan: &Plan,
+    made: &FilterPlan,
     shelf: &mut S,
     out: &mut K,
 ) -> Option<Fault>
     requires living { S.living shelf.old ≡ 0 }
-    requires source { IsSomeAnd (first_source plan.now) (λ source. 0 < source.number) }
-    ensures { IfTold (S.told shelf.old request.entry.plan.now) (λ bytes. IsServed bytes plan.now)
+    requires source { IsSomeAnd (first_source made.now.plan) (λ source. 0 < source.number) }
+    requires test { FiltersBy made.now.plan made.now.test }
+    ensures { IfTold (S.told shelf.old request.entry.plan.now) (λ bytes. IsServed bytes made.now.plan)
         → Ends
         (record { told = S.told shelf.old; before = S.faults_at shelf.old; after = S.faults_at shelf.new; living = S.living shelf.new })
         (record { old = K.told out.old; new = K.told out.new; before = K.fault_count out.old; after = K.fault_count out.new })
         (asked request.entry) result }
 {
-    let Some(source) = plan.first_source() else {
+    let Some(source) = made.plan.first_source() else {
         unreachable!()
     };
     if source.name.as_str() != request.name {
@@ -57,7 +60,7 @@ fn run_plan<S: Shelf, K: Sink>(
     }
     match read_input(alloc, shelf, request.path, source) {
         Err(fault) => Some(fault),
-        Ok(rows) => print_result(alloc, plan, rows, out),
+        Ok(rows) => print_result(alloc, &source.schema, rows, made.test, out),
     }
 }
 

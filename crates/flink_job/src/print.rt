@@ -1,36 +1,37 @@
-ghost use Rattle.std.specs.Prelude.{◌≡◌, ◌≤◌, [], ◌∷◌, IfSome};
-ghost use Rattle.flow_model.specs.Algebra.{eval};
+ghost use Rattle.std.specs.Prelude.{◌≡◌, ◌≤◌, filter, slice_get, IfOk, Some};
+ghost use Rattle.first_plan.specs.FirstTest.{passes};
+ghost use Rattle.packed_rows.specs.Packed.{rows_in, IsPacked};
 ghost use Rattle.delim_io.specs.ResultText.{text_of};
 ghost use Rattle.flink_job.specs.Outcome.{EndsPrinting};
 
 use crate::fault::Fault;
 use delim_io::result_text::{WriteFault, write_rows};
-use flow_model::plan::Plan;
-use flow_model::rows::{Inputs, Rows};
+use first_plan::FieldTest;
+use flow_outside::failure::Memory;
 use flow_outside::sink::Sink;
+use flow_types::field_type::FieldType;
 use flow_types::row::{Row, sort_rows};
-use plain_eval::eval::eval_rows;
+use flow_types::schema::Schema;
+use packed_rows::rows::PackedRows;
 use std::alloc::Global;
 
-/// Writes the text of a plan's result over the rows of its one source, in tuple order; `None` where
-/// all was written.
+/// Writes the text of the rows that pass a test, in tuple order; `None` where all was written.
 pub fn print_result<K: Sink>(
     alloc: Global,
-    plan: &Plan,
-    rows: Vec<Row>,
+    schema: &Schema,
+    rows: PackedRows,
+    test: FieldTest,
     out: &mut K,
 ) -> Option<Fault>
+    requires packed { IsPacked schema.now rows }
+    requires long { slice_get schema.now test.field ≡ Some FieldType.Long }
     ensures later { K.fault_count out.old ≤ K.fault_count out.new }
-    ensures ends { EndsPrinting (text_of (eval plan.now (rows.items ∷ []))) (K.told out.old)
-        (K.told out.new) (K.fault_count out.old) (K.fault_count out.new) result }
+    ensures ends { EndsPrinting (text_of (filter (passes test) (rows_in schema.now rows)))
+        (K.told out.old) (K.told out.new) (K.fault_count out.old) (K.fault_count out.new) result }
 {
-    let Some(inputs) = one_input(alloc, rows) else {
+    let Ok(mut rows) = passing_rows(alloc, schema, rows, test) else {
         return Some(Fault::Memory);
     };
-    let Ok(result) = eval_rows(alloc, plan, &inputs) else {
-        return Some(Fault::Memory);
-    };
-    let mut rows = result.into_vec();
     let Ok(()) = sort_rows(&mut rows) else {
         return Some(Fault::Memory);
     };
@@ -41,13 +42,18 @@ pub fn print_result<K: Sink>(
     }
 }
 
-/// The inputs of a plan with one source.
-fn one_input(alloc: Global, rows: Vec<Row>) -> Option<Inputs>
-    ensures { IfSome result (λ inputs. inputs ≡ rows.items ∷ []) }
+/// The rows that pass a test, decoded. The others aren't: they are left out where the records lie, and
+/// these are let go before the rows are sorted.
+fn passing_rows(
+    alloc: Global,
+    schema: &Schema,
+    mut rows: PackedRows,
+    test: FieldTest,
+) -> Result<Vec<Row>, Memory>
+    requires packed { IsPacked schema.now rows }
+    requires long { slice_get schema.now test.field ≡ Some FieldType.Long }
+    ensures { IfOk result (λ kept. kept.items ≡ filter (passes test) (rows_in schema.now rows)) }
 {
-    let mut inputs = Vec::new(alloc);
-    match inputs.push(Rows::of(rows)) {
-        Ok(()) => Some(Inputs::of(inputs)),
-        Err(_) => None,
-    }
+    rows.keep_above(schema, usize::from(test.field), test.number);
+    rows.unpack(alloc, schema)
 }

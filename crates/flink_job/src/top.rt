@@ -29,8 +29,8 @@ pub struct Outcome<D: Spill> {
 /// Runs the program: the words ask for a plan's result, the shelf has the plan and the inputs, the
 /// result is written to `out` and a fault's line to `err`.
 ///
-/// The cost is one copy of the input's rows for each of the plan's nodes, and the sort of the
-/// result's rows.
+/// The cost is a record for each of the input's rows, which the plan's test looks at in place, and for
+/// each of the result's rows its decoding, the sort and its line.
 pub fn flink_main<Rt: Threads + Sync, S: Shelf, K: Sink, E: Sink, D: Spill + Send, G: Gate + Sync>(
     _rt: &Rt,
     alloc: Global,

@@ -1,5 +1,5 @@
 -- Laws of records.
-use Rattle.std.proofs.Common.{◌≡◌, ℕ, ◌+◌, ◌<◌, ◌≤◌, ◌^◌, true, false, nat_le, ◌&&◌, List, [], ◌∷◌, ◌++◌, length, take, drop, refl, sym, ◌∙◌, ap, subst, arith, length-append, IsTrue, ℤ, pos, negsuc, FitsSigned, to_z-of_z}
+use Rattle.std.proofs.Common.{◌≡◌, ℕ, ◌+◌, ◌<◌, ◌≤◌, ◌^◌, true, false, nat_le, ◌&&◌, List, [], ◌∷◌, ◌++◌, length, take, drop, refl, sym, ◌∙◌, ap, subst, arith, length-append, IsTrue, IfSome, is_some, Option, Some, None, ℤ, pos, negsuc, FitsSigned, to_z-of_z}
 use Rattle.std.proofs.lemmas.List.Sums.{sum_by-cons}
 use Rattle.std.proofs.lemmas.Bool.Decides.{Decides-int_eq}
 use Rattle.std.proofs.lemmas.Int.{SFits-int_wrap}
@@ -46,14 +46,25 @@ form_widest (f ∷ fs) (v ∷ vs) fit =
 pub is_within_widest : IsWithinWidest
 is_within_widest fields t is = form_widest fields t is.fitting
 
--- the record of a schema is small
-pub record_small : (fields : Fields) (bytes : List ℕ) → IsTrue (is_schema fields) → IsRecord fields bytes → length bytes ≤ record_limit
-record_small fields bytes schema is =
+-- the record of a tuple that fits a schema is small
+pub tuple_small : (fields : Fields) (t : Tuple) → IsTrue (is_schema fields) → IsTrue (fits fields t) → size t ≤ record_limit
+tuple_small fields t schema fit =
     let narrow : widest fields ≤ record_limit =
     leb-true (widest fields) record_limit (and_parts (nat_le 1 (length fields) && nat_le (length fields) field_limit && list_all is_bounded fields)
     (nat_le (widest fields) record_limit) schema).1 in
-    let long : length bytes ≡ size (tuple_of fields bytes) = ap length is.formed in
-    omega (arith, form_widest fields (tuple_of fields bytes) is.tuple.fitting)
+    omega (arith, form_widest fields t fit)
+
+-- so is a size that is told exactly where the tuple fits
+pub size_small : (fields schema : Fields) (u : Tuple) (told : Option ℕ) → fields ≡ schema → IsTrue (is_schema schema)
+    → is_some told ≡ fits fields u → IfSome told (λ n. n ≡ size u) → IfSome told (λ n. n ≤ record_limit)
+size_small fields schema u None same limits tells is = tt
+size_small fields schema u (Some n) same limits tells is =
+    omega (arith, is, tuple_small fields u (subst (λ (fs : Fields). IsTrue (is_schema fs)) (sym same) limits) (sym tells))
+
+-- the record of a schema is small
+pub record_small : (fields : Fields) (bytes : List ℕ) → IsTrue (is_schema fields) → IsRecord fields bytes → length bytes ≤ record_limit
+record_small fields bytes schema is =
+    omega (arith, ap length is.formed, tuple_small fields (tuple_of fields bytes) schema is.tuple.fitting)
 
 -- the bits of a Long are a number of 64 bits, and stand for it
 pub bits_small : (n : ℤ) → FitsSigned w64 n → cast_unsigned w64 n < 2 ^ 64

@@ -19,12 +19,22 @@ pub fn encode_into(out: &mut [u8], schema: &Schema, row: &Row) -> Option<usize>
     ensures unchanged { result ≡ None → out.new ≡ out.old }
     ensures record { IfSome result (λ n. IsRecordOf schema.now row.now (form row.now)) }
 {
-    let size = size_of(schema.fields(), row.values())?;
+    let size = record_size(schema, row)?;
     if out.len() < size {
         return None;
     }
     write_values(out, row.values());
     Some(size)
+}
+
+/// The bytes of a row's record, at most 16,384, or `None` exactly where the row doesn't fit the schema.
+/// The values are gone over once, and no byte of a text is read.
+pub fn record_size(schema: &Schema, row: &Row) -> Option<usize>
+    ensures fits { is_some result ≡ fits schema.now row.now }
+    ensures size { IfSome result (λ n. n ≡ size row.now) }
+    ensures small { IfSome result (λ n. n ≤ record_limit) }
+{
+    size_of(schema.fields(), row.values())
 }
 
 /// The bytes of the record of values that fit the fields, or `None` exactly where they don't.

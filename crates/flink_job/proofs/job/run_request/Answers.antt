@@ -15,5 +15,5 @@ returns-in-Ok g c =
       before = g.K.Sink.fault_count c.args.out.now;
       after = g.K.Sink.fault_count c.run_plan.new.out;
     } in
-    let served = subst (λ (t : List ℕ → Option (List ℕ)). IfTold (t c.args.request.plan.now) (λ bytes. IsServed bytes c.in-Ok.plan)) (sym c.in-Ok.ensures.tells) c.in-Ok.ensures.served in
+    let served = subst (λ (t : List ℕ → Option (List ℕ)). IfTold (t c.args.request.plan.now) (λ bytes. IsServed bytes c.in-Ok.made.plan)) (sym c.in-Ok.ensures.tells) c.in-Ok.ensures.served in
     ends_earlier (told c.args.shelf.now) (told c.read_plan.new.shelf) (g.S.Shelf.faults_at c.args.shelf.now) (g.S.Shelf.faults_at c.read_plan.new.shelf) (g.S.Shelf.faults_at c.run_plan.new.shelf) (g.S.Shelf.living c.run_plan.new.shelf) out (asked c.args.request) c.run_plan.result c.in-Ok.ensures.tells c.in-Ok.ensures.later (c.run_plan.ensures served)

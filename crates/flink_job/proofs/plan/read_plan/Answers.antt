@@ -6,7 +6,7 @@ use Rattle.flink_job.proofs.plan.read_plan.Goals as goal
 
 pub returns-in-Ok-first_plan-clause-served : goal.returns-in-Ok-first_plan-clause-served
 returns-in-Ok-first_plan-clause-served g c =
-    served_from (g.S.Shelf.told c.args.shelf.now c.args.name.now) c.in-Ok.bytes.items c.in-Ok-first_plan.plan c.in-Ok.ensures.whole (subst (λ b. IsFirstPlan b c.in-Ok-first_plan.plan) c.as_slice.ensures.value c.in-Ok-first_plan.ensures.ok)
+    served_from (g.S.Shelf.told c.args.shelf.now c.args.name.now) c.in-Ok.bytes.items c.in-Ok-first_plan.made.plan c.in-Ok.ensures.whole (subst (λ b. IsFirstPlan b c.in-Ok-first_plan.made.plan) c.as_slice.ensures.value c.in-Ok-first_plan.ensures.ok)
 
 pub returns-clause-refused : goal.returns-clause-refused
 returns-clause-refused g c =

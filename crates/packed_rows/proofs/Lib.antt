@@ -1,0 +1,3 @@
+pub mod PackedLemmas
+pub mod AboveLemmas
+pub mod KeepLemmas
