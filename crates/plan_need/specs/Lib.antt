@@ -1,1 +1,2 @@
 pub mod Allotments
+pub mod Worked

@@ -8,3 +8,4 @@
 pub mod budget;
 pub mod divide;
 pub mod need;
+pub mod worked;
