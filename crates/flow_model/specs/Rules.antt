@@ -1,10 +1,10 @@
-use Rattle.std.specs.Prelude.{◌≡◌, ℕ, suc, Bool, true, false, not, ◌&&◌, ◌||◌, ◌==◌, nat_le, nat_lt, if◌then◌else◌, List, [], ◌∷◌, ◌++◌, length, map, find, filter, slice_index_or, Option, Some, None, All, IsTrue}
+use Rattle.std.specs.Prelude.{◌≡◌, ℕ, suc, Bool, true, false, not, ◌&&◌, ◌||◌, ◌==◌, nat_le, nat_lt, if◌then◌else◌, List, [], ◌∷◌, ◌++◌, length, map, find, filter, Option, Some, None, All, IsTrue}
 use Rattle.std.specs.List.{list_all, flat_map}
 use Rattle.std.specs.Str.{bytes_eq}
 use Rattle.flow_types.specs.declared.expr.Expr.{Expr}
 use Rattle.flow_types.specs.Tuples.{Tuple}
 use Rattle.flow_types.specs.Types.{Fields, is_schema}
-use Rattle.flow_types.specs.ExprTypes.{◌>>=◌, is_limited}
+use Rattle.flow_types.specs.ExprTypes.{is_limited}
 use Rattle.flow_model.specs.declared.op.Op.{Op}
 use Rattle.flow_model.specs.declared.op.Op.TheVariants as op
 use Rattle.flow_model.specs.declared.op.Branch.{Branch}
@@ -14,7 +14,7 @@ use Rattle.flow_model.specs.declared.plan.Plan.{Plan}
 use Rattle.flow_model.specs.Rows.{keeps_left, keeps_right}
 use Rattle.flow_model.specs.Segments.{is_delta}
 use Rattle.flow_model.specs.Algebra.{is_source}
-use Rattle.flow_model.specs.Schemas.{only_if, columns_type, tested, branch_types, all_widened, group_type, ranked, join_type, cogroup_type, fits_schema}
+use Rattle.flow_model.specs.Schemas.{fits_schema, input_at, op_type}
 
 -- The rules that a plan in memory keeps, node by node. They are this project's own.
 
@@ -124,7 +124,7 @@ is_visible_at_end nodes node n =
 
 -- the schema of a node's first or second input; no fields where it has none
 abbrev pub input_schema : Node → ℕ → Fields
-input_schema node i = slice_index_or node.inputs i []
+input_schema node i = input_at node.inputs i
 
 -- the schema of an iteration's bind name: a bulk's is its first rows', a delta's its workset's
 abbrev pub bind_schema : Node → Fields
@@ -159,24 +159,9 @@ key_at (Some node) = delta_key node.op
 abbrev pub home_key : List Node → Node → List ℕ
 home_key nodes node = key_at (node_at nodes node.home)
 
--- the schema that an op's rows have by those that it takes, where it has one
+-- the schema that an op's rows have where it stands, by those that it takes, where it has one
 abbrev pub rows_type : List Node → Node → Op → Option Fields
-rows_type nodes node (op.Source fields delimiter) = Some fields
-rows_type nodes node (op.Map input columns) = columns_type (input_schema node 0) columns
-rows_type nodes node (op.Filter input test) = tested (input_schema node 0) test
-rows_type nodes node (op.FlatMap input rows) = branch_types (input_schema node 0) rows >>= all_widened
-rows_type nodes node (op.Union names) = all_widened node.inputs
-rows_type nodes node (op.Distinct input) = Some (input_schema node 0)
-rows_type nodes node (op.Group input key aggs combine) = group_type (input_schema node 0) key aggs
-rows_type nodes node (op.Top input key order count) = ranked (input_schema node 0) key order
-rows_type nodes node (op.Join left right left_key right_key columns kind left_default right_default) =
-    join_type (input_schema node 0) (input_schema node 1) left_key right_key columns left_default right_default
-rows_type nodes node (op.Cogroup left right left_key right_key left_aggs right_aggs) =
-    cogroup_type (input_schema node 0) (input_schema node 1) left_key right_key left_aggs right_aggs
-rows_type nodes node (op.Bulk init bind most next until) = Some (input_schema node 0)
-rows_type nodes node (op.Delta solution workset bind key order merge most delta next) = ranked (input_schema node 0) key order
-rows_type nodes node (op.Probe input key columns) =
-    join_type (input_schema node 0) (input_schema node 1) key (home_key nodes node) columns None None
+rows_type nodes node o = op_type node.inputs (home_key nodes node) o
 
 -- a schema is this one
 abbrev pub is_fields : Option Fields → Fields → Bool

@@ -10,6 +10,8 @@ use Rattle.flow_types.specs.Tuples.{Tuple}
 use Rattle.flow_types.specs.Types.{Fields, fits}
 use Rattle.flow_types.specs.ExprTypes.{◌>>=◌, widened, compared, typing_of, type_of}
 use Rattle.flow_model.specs.declared.op.Branch.{Branch}
+use Rattle.flow_model.specs.declared.op.Op.{Op}
+use Rattle.flow_model.specs.declared.op.Op.TheVariants as op
 
 -- The schemas of rows, as the operations give them. They are this project's own.
 
@@ -142,3 +144,27 @@ abbrev pub cogroup_type : Fields → Fields → List ℕ → List ℕ → List A
 cogroup_type left right left_key right_key left_aggs right_aggs =
     keys_type left right left_key right_key >>= λ ks.
     only_if (list_all (is_fold left) left_aggs && list_all (is_fold right) right_aggs) (ks ++ (long_each left_aggs ++ long_each right_aggs))
+
+-- the schema of one of the inputs that an op takes, by its place among them; no fields where there is none
+abbrev pub input_at : List Fields → ℕ → Fields
+input_at inputs i = slice_index_or inputs i []
+
+-- the schema of an op's rows, where it has one, by the schemas of the rows that it takes; `home_key` is the key of the
+-- delta iteration in whose body it stands
+abbrev pub op_type : (inputs : List Fields) → (home_key : List ℕ) → Op → Option Fields
+op_type inputs home_key (op.Source fields delimiter) = Some fields
+op_type inputs home_key (op.Map input columns) = columns_type (input_at inputs 0) columns
+op_type inputs home_key (op.Filter input test) = tested (input_at inputs 0) test
+op_type inputs home_key (op.FlatMap input rows) = branch_types (input_at inputs 0) rows >>= all_widened
+op_type inputs home_key (op.Union names) = all_widened inputs
+op_type inputs home_key (op.Distinct input) = Some (input_at inputs 0)
+op_type inputs home_key (op.Group input key aggs combine) = group_type (input_at inputs 0) key aggs
+op_type inputs home_key (op.Top input key order count) = ranked (input_at inputs 0) key order
+op_type inputs home_key (op.Join left right left_key right_key columns kind left_default right_default) =
+    join_type (input_at inputs 0) (input_at inputs 1) left_key right_key columns left_default right_default
+op_type inputs home_key (op.Cogroup left right left_key right_key left_aggs right_aggs) =
+    cogroup_type (input_at inputs 0) (input_at inputs 1) left_key right_key left_aggs right_aggs
+op_type inputs home_key (op.Bulk init bind most next until) = Some (input_at inputs 0)
+op_type inputs home_key (op.Delta solution workset bind key order merge most delta next) = ranked (input_at inputs 0) key order
+op_type inputs home_key (op.Probe input key columns) =
+    join_type (input_at inputs 0) (input_at inputs 1) key home_key columns None None

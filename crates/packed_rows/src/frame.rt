@@ -60,13 +60,13 @@ fn first_len(bytes: &[u8]) -> usize
 }
 
 /// Whether the Long in a field of a record is greater than a number. The record is looked at in place.
-pub(crate) fn is_above(record: &[u8], schema: &Schema, field: usize, number: i64) -> bool
-    requires whole { IsRecord schema.now record.now }
+pub(crate) fn is_above(bytes: &[u8], schema: &Schema, field: usize, number: i64) -> bool
+    requires whole { IsRecord schema.now bytes.now }
     requires long { slice_get schema.now field ≡ Some FieldType.Long }
-    ensures { result ≡ is_above field number (tuple_of schema.now record.now) }
+    ensures { result ≡ is_above field number (tuple_of schema.now bytes.now) }
 {
-    let place = field_at(&record, schema, field);
-    long_at(&record, place.start) > number
+    let place = field_at(&bytes, schema, field);
+    long_at(&bytes, place.start) > number
 }
 
 /// Moves the records down whose Long in a field is greater than a number, over those where it isn't, and

@@ -7,7 +7,8 @@ use Rattle.flow_outside.specs.Blocks.{Blocks}
 use Rattle.flow_outside.specs.declared.failure.StreamFault.TheVariants as fault
 use Rattle.paged_view.specs.Reading.{HasRecord, first_record, after_first}
 use Rattle.paged_view.specs.RecordLaws.{ReadsFirst}
-use Rattle.paged_view.specs.Streams.{HasStreamCause, KnowsRows, Advances}
+use Rattle.flow_outside.specs.Causes.{HasStreamCause}
+use Rattle.paged_view.specs.Streams.{KnowsRows, Advances}
 use Rattle.paged_view.proofs.RecordLemmas.{reads_first, length-framed}
 
 -- the rows that a text is known to hold

@@ -1,7 +1,8 @@
 ghost use Rattle.std.specs.Prelude.{◌≡◌, ℕ, ◌<◌, ◌≤◌, true, List, Option, None, Ok, IfOk, MatchResult, is_some, option_map};
 ghost use Rattle.flow_outside.specs.Blocks.{Blocks};
 ghost use Rattle.segment_core.specs.Segments.{Page, weigh};
-ghost use Rattle.paged_view.specs.Streams.{HasStreamCause, KnowsRows, Advances};
+ghost use Rattle.flow_outside.specs.Causes.{HasStreamCause};
+ghost use Rattle.paged_view.specs.Streams.{KnowsRows, Advances};
 ghost use Rattle.paged_view.specs.Seen.{seen_in};
 
 use crate::record_ref::RecordRef;

@@ -1,4 +1,4 @@
-use Rattle.std.specs.Prelude.{ℕ, Bool, true, false, not, ◌&&◌, ◌||◌, ◌==◌, nat_le, if◌then◌else◌, ℤ, pos, List, [], ◌∷◌, length, take, drop, codes, Option, Some, None, option_map}
+use Rattle.std.specs.Prelude.{ℕ, Bool, true, false, not, ◌&&◌, ◌==◌, nat_le, if◌then◌else◌, ℤ, pos, List, [], ◌∷◌, length, take, drop, codes, Option, Some, None, option_map}
 use Rattle.std.specs.Str.{bytes_eq}
 use Rattle.serde_json.specs.Data.{Data}
 use Rattle.serde_json.specs.Find.{as_str, as_bool}
@@ -13,6 +13,7 @@ use Rattle.flow_model.specs.declared.op.JoinKind.{JoinKind}
 use Rattle.flow_model.specs.declared.op.JoinKind.TheVariants as kind
 use Rattle.flow_model.specs.declared.op.MergeRule.{MergeRule}
 use Rattle.flow_model.specs.declared.op.MergeRule.TheVariants as merge
+use Rattle.flow_model.specs.Rules.{is_delimiter}
 use Rattle.plan_json.specs.declared.reading.Flaw.TheVariants as flaw
 use Rattle.plan_json.specs.Json.{◌>>=◌, only_if, collected, meaning, items_in, list_in, is_text, long}
 use Rattle.plan_json.specs.Reading.{Reading, or_flaw, or_absent}
@@ -43,10 +44,6 @@ field_type d = as_str d >>= type_of_text
 -- a member that is a list of 1 to 32 types of fields
 abbrev pub fields_in : Option Data → Reading (List FieldType)
 fields_in member = or_flaw flaw.Node (member >>= list_in 1 32 >>= collected field_type)
-
--- a comma, a semicolon, a bar, a tab or a space
-abbrev pub is_delimiter : ℕ → Bool
-is_delimiter c = (c == 44) || (c == 59) || (c == 124) || (c == 9) || (c == 32)
 
 -- a text of one byte that stands between fields
 abbrev pub delimiter_of : List ℕ → Option ℕ

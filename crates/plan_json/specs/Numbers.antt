@@ -1,6 +1,6 @@
-use Rattle.std.specs.Prelude.{ℕ, Bool, true, not, ◌&&◌, ◌==◌, nat_le, ℤ, pos, negsuc, List, [], ◌∷◌, Option, None}
-use Rattle.std.specs.List.{list_any}
+use Rattle.std.specs.Prelude.{ℕ, ◌&&◌, nat_le, ℤ, pos, negsuc, List, Option, None}
 use Rattle.serde_json.specs.Data.{Data}
+use Rattle.flow_model.specs.Rules.{are_distinct}
 use Rattle.plan_json.specs.declared.reading.Flaw.TheVariants as flaw
 use Rattle.plan_json.specs.Json.{◌>>=◌, only_if, collected, list_in, long}
 use Rattle.plan_json.specs.Reading.{Reading, or_flaw}
@@ -24,12 +24,7 @@ count_in member = or_flaw flaw.Node (member >>= number_of 1 1000000)
 abbrev pub field_number : Data → Option ℕ
 field_number d = number_of 0 31 d
 
--- no number stands twice
-abbrev pub are_different : List ℕ → Bool
-are_different [] = true
-are_different (k ∷ ks) = not (list_any (λ j. j == k) ks) && are_different ks
-
 -- a member that is a key: from `least` to 8 different field numbers
 abbrev pub key_in : ℕ → Option Data → Reading (List ℕ)
 key_in least member =
-    or_flaw flaw.Node (member >>= list_in least 8 >>= λ items. collected field_number items >>= λ numbers. only_if (are_different numbers) numbers)
+    or_flaw flaw.Node (member >>= list_in least 8 >>= λ items. collected field_number items >>= λ numbers. only_if (are_distinct numbers) numbers)

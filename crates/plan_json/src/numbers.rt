@@ -1,7 +1,9 @@
-ghost use Rattle.std.specs.Prelude.{◌≡◌, IfOk, map};
+ghost use Rattle.std.specs.Prelude.{not, ◌==◌, ◌≡◌, IfOk, map};
 ghost use Rattle.serde_json.specs.View.{view};
 ghost use Rattle.plan_json.specs.Json.{seen, collected};
-ghost use Rattle.plan_json.specs.Numbers.{within, number_of, count_in, field_number, are_different, key_in};
+ghost use Rattle.std.specs.List.{list_all};
+ghost use Rattle.flow_model.specs.Rules.{are_distinct};
+ghost use Rattle.plan_json.specs.Numbers.{within, number_of, count_in, field_number, key_in};
 
 use crate::json::list_in;
 use crate::reading::{Flaw, Reading};
@@ -63,7 +65,7 @@ pub fn key_in(
         return Ok(Err(Flaw::Node));
     };
     match field_numbers(alloc, items)? {
-        Some(numbers) if are_different(numbers.as_slice()) => Ok(Ok(numbers)),
+        Some(numbers) if are_distinct(numbers.as_slice()) => Ok(Ok(numbers)),
         _ => Ok(Err(Flaw::Node)),
     }
 }
@@ -86,11 +88,18 @@ fn field_numbers(alloc: Global, values: &Vec<Value>) -> Result<Option<KeyList>, 
 }
 
 /// Whether no number stands twice.
-fn are_different(numbers: &[u16]) -> bool
-    ensures { result ≡ are_different numbers.now }
+fn are_distinct(numbers: &[u16]) -> bool
+    ensures { result ≡ are_distinct numbers.now }
 {
     match numbers {
         [] => true,
-        [first, rest @ ..] => !rest.contains(first) && are_different(rest),
+        [first, rest @ ..] => is_none_of(*first, rest) && are_distinct(rest),
     }
+}
+
+/// Whether a number is none of these.
+fn is_none_of(number: u16, others: &[u16]) -> bool
+    ensures { result ≡ list_all (λ other. not (other == number)) others.now }
+{
+    others.iter().all(|other| *other != number)
 }

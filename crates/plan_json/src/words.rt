@@ -1,6 +1,7 @@
 ghost use Rattle.std.specs.Prelude.{◌≡◌};
 ghost use Rattle.plan_json.specs.Json.{seen, meaning};
-ghost use Rattle.plan_json.specs.Forms.{is_delimiter, delimiter_of, delimiter_in, combine_in, kinds, kind_in, merge_rules, merge_in};
+ghost use Rattle.flow_model.specs.Rules.{is_delimiter};
+ghost use Rattle.plan_json.specs.Forms.{delimiter_of, delimiter_in, combine_in, kinds, kind_in, merge_rules, merge_in};
 
 use crate::reading::{Flaw, Reading};
 use flow_model::op::{JoinKind, MergeRule};

@@ -4,7 +4,7 @@ use Rattle.flow_types.specs.Tuples.{Tuple}
 use Rattle.serde_json.specs.Data.{Data}
 use Rattle.serde_json.specs.Find.{get}
 use Rattle.flow_model.specs.declared.op.JoinKind.{JoinKind}
-use Rattle.flow_model.specs.declared.op.JoinKind.TheVariants as kind
+use Rattle.flow_model.specs.Rows.{keeps_left, keeps_right}
 use Rattle.plan_json.specs.declared.reading.Flaw.TheVariants as flaw
 use Rattle.plan_json.specs.declared.rows.OpName.{OpName}
 use Rattle.plan_json.specs.declared.rows.OpName.TheVariants as op_name
@@ -29,21 +29,6 @@ where_formed false r = Err flaw.Node
 -- a body that is a list; its nodes are read for themselves
 abbrev pub has_body : Data → Bool
 has_body d = is_some (get (codes "body") d >>= items_in)
-
--- whether a kind keeps rows of the left side that have no partner, which then want the right side's
--- default
-abbrev pub keeps_left : JoinKind → Bool
-keeps_left kind.Inner = false
-keeps_left kind.Left = true
-keeps_left kind.Right = false
-keeps_left kind.Full = true
-
--- the same of the right side
-abbrev pub keeps_right : JoinKind → Bool
-keeps_right kind.Inner = false
-keeps_right kind.Left = false
-keeps_right kind.Right = true
-keeps_right kind.Full = true
 
 -- a join with its kind before its other members
 abbrev pub join_op : JoinKind → List ℕ → List ℕ → List ℕ → List ℕ → List Expr → Option Tuple → Option Tuple → TreeOp

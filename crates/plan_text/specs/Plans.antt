@@ -1,10 +1,11 @@
-use Rattle.std.specs.Prelude.{ℕ, Bool, ◌&&◌, ◌||◌, ◌==◌, nat_le, nat_lt, if◌then◌else◌, List, length, codes, Option, Some, None, is_some, Result, Ok, Err}
+use Rattle.std.specs.Prelude.{ℕ, Bool, ◌&&◌, nat_le, nat_lt, if◌then◌else◌, List, length, codes, Option, Some, None, is_some, Result, Ok, Err}
 use Rattle.std.specs.Str.{is_utf8}
 use Rattle.serde_json.specs.Data.{Data}
 use Rattle.serde_json.specs.Find.{get}
 use Rattle.serde_json.specs.Read.{read}
 use Rattle.flow_model.specs.declared.plan_code.PlanCode.{PlanCode}
 use Rattle.flow_model.specs.declared.plan_code.PlanCode.TheVariants as code
+use Rattle.flow_model.specs.Rules.{is_segment_size}
 use Rattle.plan_json.specs.declared.rows.Form.TheVariants as form
 use Rattle.plan_json.specs.Json.{◌>>=◌, only_if, items_in}
 use Rattle.plan_json.specs.Rows.{has_only}
@@ -26,14 +27,10 @@ byte_limit = 1048576
 abbrev pub node_limit : ℕ
 node_limit = 64
 
--- the size of a segment: 4,096, 8,192, 16,384 or 32,768 bytes
-abbrev pub is_segment : ℕ → Bool
-is_segment n = (n == 4096) || (n == 8192) || (n == 16384) || (n == 32768)
-
 -- the member `segment`; 32,768 where it is absent
 abbrev pub segment_in : Option Data → Option ℕ
 segment_in None = Some 32768
-segment_in (Some d) = number_of 4096 32768 d >>= λ n. only_if (is_segment n) n
+segment_in (Some d) = number_of 4096 32768 d >>= λ n. only_if (is_segment_size n) n
 
 -- the member `nodes`: at least one
 abbrev pub nodes_in : Option Data → Option (List Data)

@@ -3,7 +3,8 @@ ghost use Rattle.serde_json.specs.View.{view};
 ghost use Rattle.plan_json.specs.declared.rows.OpName.TheVariants as op_name;
 ghost use Rattle.plan_json.specs.Reading.{from_one, from_two, from_three, from_four, from_five, from_six, from_seven, from_nine};
 ghost use Rattle.plan_text.specs.declared.tree.TreeOp.TheVariants as tree_op;
-ghost use Rattle.plan_text.specs.Ops.{has_body, keeps_left, keeps_right, join_op, join_of, op_in};
+ghost use Rattle.flow_model.specs.Rows.{keeps_left, keeps_right};
+ghost use Rattle.plan_text.specs.Ops.{has_body, join_op, join_of, op_in};
 
 use crate::tree::TreeOp;
 use flow_model::op::{

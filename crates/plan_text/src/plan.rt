@@ -3,7 +3,8 @@ ghost use Rattle.serde_json.specs.View.{view};
 ghost use Rattle.plan_json.specs.Json.{seen};
 ghost use Rattle.plan_json.specs.Names.{name_of};
 ghost use Rattle.plan_json.specs.Numbers.{number_of};
-ghost use Rattle.plan_text.specs.Plans.{is_segment, segment_in, nodes_in, outlined, outline_of, plan_of};
+ghost use Rattle.flow_model.specs.Rules.{is_segment_size};
+ghost use Rattle.plan_text.specs.Plans.{segment_in, nodes_in, outlined, outline_of, plan_of};
 ghost use Rattle.plan_text.specs.Told.{Tells};
 
 use crate::fault::PlanFault;
@@ -81,13 +82,13 @@ fn segment_in(member: Option<&Value>) -> Option<u32>
         None => Some(32_768),
         Some(value) => {
             let size = number_of(value, 4096, 32_768)?;
-            if is_segment(size) { Some(size) } else { None }
+            if is_segment_size(size) { Some(size) } else { None }
         }
     }
 }
 
-fn is_segment(size: u32) -> bool
-    ensures { result ≡ is_segment size }
+fn is_segment_size(size: u32) -> bool
+    ensures { result ≡ is_segment_size size }
 {
     size == 4096 || size == 8192 || size == 16_384 || size == 32_768
 }

@@ -8,5 +8,5 @@ returns c =
     let right : FitsSigned w64 c.long_at.result = search rules in
     ap (λ (z : ℤ). int_lt z (to_z w64 (of_z w64 c.long_at.result))) (to_z-of_z left)
     ∙ ap (λ (z : ℤ). int_lt c.args.number z) (to_z-of_z right)
-    ∙ above_read c.args.schema.now c.args.record.now c.args.field c.field_at-place.result c.long_at.result c.args.number
+    ∙ above_read c.args.schema.now c.args.bytes.now c.args.field c.field_at-place.result c.long_at.result c.args.number
     c.requires.long c.field_at-place.ensures.place c.long_at.ensures.value
