@@ -1,0 +1,4 @@
+pub mod Places
+pub mod Numbering
+pub mod Checking
+pub mod Trees

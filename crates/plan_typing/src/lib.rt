@@ -1,0 +1,6 @@
+//! The types of a plan's operations: the schema of an op's rows by those of the rows that it takes. It
+//! stands on the plan's types and definitions.
+//!
+//! Its one promise: `type_op` gives that schema, or exactly the first of the codes `BadField`,
+//! `BadTypes` and `BadWidth` that refuses the op.
+#![tactic(auto)]
