@@ -1,0 +1,9 @@
+pub mod Fitting
+pub mod Keeps
+pub mod Named
+pub mod Numbers
+pub mod Plans
+pub mod References
+pub mod Single
+pub mod Stands
+pub mod Walk
