@@ -144,9 +144,10 @@ end_holds ps all node w s seen inputs = go (is_iteration node.op) refl
 
     ended : IsClosed all node → node.home ≡ 0 → (list_all (is_visible_at_end all node) (end_references node.op) ≡ true) × (is_fitting all node node.op ≡ true)
     ended c zero_is =
-        let both = end_seen c.before node c.ended in
-        (ends_visible ps all node s.t.op w.names (own_op ps s.t node s.is) both.0,
-         fitting_stays all c.before c.behind node node.op c.parts zero_is inputs seen (outer_schema all w.numbers w.schemas) both.1)
+        let both = end_seen c.before node c.ended in (
+          ends_visible ps all node s.t.op w.names (own_op ps s.t node s.is) both.0,
+          fitting_stays all c.before c.behind node node.op c.parts zero_is inputs seen (outer_schema all w.numbers w.schemas) both.1,
+        )
 
     go : (b : Bool) → is_iteration node.op ≡ b → (list_all (is_visible_at_end all node) (end_references node.op) ≡ true) × (is_fitting all node node.op ≡ true)
     go false i = no_end all node node.op i
@@ -156,7 +157,7 @@ pub holds : (ps : List Place) (all : List Node) (node : Node) → Whole ps all �
 holds ps all node w s =
     let numbers : is_numbered 1 (s.before ++ node ∷ s.behind) ≡ true = subst (λ nodes. is_numbered 1 nodes ≡ true) s.parts w.numbers in
     let same : (n : ℕ) → n < node.number → node_at all n ≡ node_at s.before n =
-        λ n low. ap (λ nodes. node_at nodes n) s.parts ∙ below_number 1 s.before node s.behind n numbers low in
+    λ n low. ap (λ nodes. node_at nodes n) s.parts ∙ below_number 1 s.before node s.behind n numbers low in
     let own = own_op ps s.t node s.is in
     let placed = placed_stays s.before all node (same node.home s.above) s.passed.placed in
     let seen = starts_visible ps all node s.t.op w.names own s.passed.known in
@@ -167,13 +168,13 @@ holds ps all node w s =
     let rows : rows_type all node node.op ≡ Some node.schema = ap (λ k. op_type node.inputs k node.op) key ∙ typed.0 in
     let end = end_holds ps all node w s seen (sym inputs) in
     let range : in_range node.op ≡ true =
-        ap in_range own ∙ ranges _ _ s.t.op node.inputs (home_key s.before node) node.schema s.formed (ap (op_type node.inputs (home_key s.before node)) (sym own) ∙ typed.0) typed.1 in
+    ap in_range own ∙ ranges _ _ s.t.op node.inputs (home_key s.before node) node.schema s.formed (ap (op_type node.inputs (home_key s.before node)) (sym own) ∙ typed.0) typed.1 in
     let a = both_pass (is_placed all node) (list_all (is_visible all node) (references node.op)) placed seen in
     let b = both_pass (is_placed all node && list_all (is_visible all node) (references node.op)) (list_all (is_visible_at_end all node) (end_references node.op)) a end.0 in
     let c = both_pass (is_placed all node && list_all (is_visible all node) (references node.op) && list_all (is_visible_at_end all node) (end_references node.op)) (in_range node.op) b range in
     let d = both_pass (is_placed all node && list_all (is_visible all node) (references node.op) && list_all (is_visible_at_end all node) (end_references node.op) && in_range node.op)
-        (are_inputs (inputs_of all node) node.inputs) c (inputs_are (inputs_of all node) node.inputs inputs) in
+    (are_inputs (inputs_of all node) node.inputs) c (inputs_are (inputs_of all node) node.inputs inputs) in
     let e = both_pass (is_placed all node && list_all (is_visible all node) (references node.op) && list_all (is_visible_at_end all node) (end_references node.op) && in_range node.op && are_inputs (inputs_of all node) node.inputs)
-        (is_fields (rows_type all node node.op) node.schema) d (fields-self (rows_type all node node.op) node.schema rows) in
+    (is_fields (rows_type all node node.op) node.schema) d (fields-self (rows_type all node node.op) node.schema rows) in
     both_pass (is_placed all node && list_all (is_visible all node) (references node.op) && list_all (is_visible_at_end all node) (end_references node.op) && in_range node.op && are_inputs (inputs_of all node) node.inputs && is_fields (rows_type all node node.op) node.schema)
     (is_fitting all node node.op) e end.1

@@ -1,9 +1,13 @@
+pub mod Binds
 pub mod Fitting
+pub mod Formed
 pub mod Keeps
 pub mod Named
 pub mod Numbers
 pub mod Plans
+pub mod Readings
 pub mod References
 pub mod Single
 pub mod Stands
+pub mod Trees
 pub mod Walk

@@ -49,7 +49,7 @@ checked_keeps t nodes is h found =
     let numbers : is_numbered 1 nodes ≡ true = numbers_follow ps [] nodes 1 t.nodes nodes follow is.numbers in
     let stand = all_stand ps [] nodes 0 1 t.nodes nodes follow refl is.numbers (omega arith) is.homes is.ops in
     let schemas = All-weaker (Stands ps nodes) (λ (m : Node). is_schema m.schema ≡ true)
-        (λ m s. (typed_schema m.inputs (home_key s.before m) m.op m.schema s.passed.typed).1) nodes stand in
+    (λ m s. (typed_schema m.inputs (home_key s.before m) m.op m.schema s.passed.typed).1) nodes stand in
     let whole : Whole (places t.nodes) nodes = record { numbers = numbers; names = λ name p e. named ps [] nodes t.nodes nodes name p follow refl numbers e; schemas = schemas } in
     let result = is_seen ps is_outer t.result found in
     record {
@@ -60,8 +60,8 @@ checked_keeps t nodes is h found =
       names = names_differ ps [] [] nodes 1 t.nodes nodes follow is.numbers refl (All-nil (λ (p : Place). p.number < 1));
       nodes = All-weaker (Stands ps nodes) (λ (m : Node). node_holds nodes m ≡ true) (λ m s. holds ps nodes m whole s) nodes stand;
       result = ap (λ n. is_node nodes n (λ (m : Node). m.home == 0)) result.number
-        ∙ shown nodes result.place (λ (m : Node). m.home == 0) (named ps [] nodes t.nodes nodes t.result result.place follow refl numbers result.there)
-            (λ m shows. outer_shows result.place m result.visible shows);
+          ∙ shown nodes result.place (λ (m : Node). m.home == 0) (named ps [] nodes t.nodes nodes t.result result.place follow refl numbers result.there)
+          (λ m shows. outer_shows result.place m result.visible shows);
     }
 
 -- The plan of a tree that reading left keeps the rules of plans.

@@ -172,10 +172,10 @@ names_differ ps front done all k (t ∷ ts) (n ∷ ns) f numbers parts low =
     bind_parts : (b : List ℕ) → binds_of t.op ≡ b ∷ [] → ps ≡ (front ++ record { name = t.name; number = t.number; home = t.home } ∷ []) ++ record { name = b; number = t.number; home = t.number } ∷ places ts
     bind_parts b e =
         let step : front ++ (places_of t ++ places ts) ≡ front ++ (record { name = t.name; number = t.number; home = t.home } ∷ record { name = b; number = t.number; home = t.number } ∷ places ts) =
-                ap (λ bs. front ++ (record { name = t.name; number = t.number; home = t.home } ∷ map (λ bind. record { name = bind; number = t.number; home = t.number }) bs ++ places ts)) e in
+        ap (λ bs. front ++ (record { name = t.name; number = t.number; home = t.home } ∷ map (λ bind. record { name = bind; number = t.number; home = t.number }) bs ++ places ts)) e in
         let split : (front ++ record { name = t.name; number = t.number; home = t.home } ∷ []) ++ record { name = b; number = t.number; home = t.number } ∷ places ts
-                ≡ front ++ (record { name = t.name; number = t.number; home = t.home } ∷ record { name = b; number = t.number; home = t.number } ∷ places ts) =
-                append_assoc front (record { name = t.name; number = t.number; home = t.home } ∷ []) (record { name = b; number = t.number; home = t.number } ∷ places ts) in
+        ≡ front ++ (record { name = t.name; number = t.number; home = t.home } ∷ record { name = b; number = t.number; home = t.number } ∷ places ts) =
+        append_assoc front (record { name = t.name; number = t.number; home = t.home } ∷ []) (record { name = b; number = t.number; home = t.number } ∷ places ts) in
         parts ∙ step ∙ sym split
 
     bind_by : t.number ≡ k → (b : List ℕ) → binds_of t.op ≡ b ∷ [] → StandsBy ps k b
@@ -192,7 +192,7 @@ names_differ ps front done all k (t ∷ ts) (n ∷ ns) f numbers parts low =
     apart : (b : List ℕ) → binds_of t.op ≡ b ∷ [] → not (bytes_eq n.name b) ≡ true
     apart b e =
         let free : (stands_before ps n.number n.name || list_any (λ bind. stands_before ps n.number bind || bytes_eq bind n.name) (b ∷ [])) ≡ false =
-                ap (λ bs. stands_before ps n.number n.name || list_any (λ bind. stands_before ps n.number bind || bytes_eq bind n.name) bs) (sym (binds ∙ e)) ∙ f.0.1.single in
+        ap (λ bs. stands_before ps n.number n.name || list_any (λ bind. stands_before ps n.number bind || bytes_eq bind n.name) bs) (sym (binds ∙ e)) ∙ f.0.1.single in
         let bind = neither (stands_before ps n.number n.name) (list_any (λ bind. stands_before ps n.number bind || bytes_eq bind n.name) (b ∷ [])) free in
         let one = neither (stands_before ps n.number b || bytes_eq b n.name) false bind.1 in
         let two = neither (stands_before ps n.number b) (bytes_eq b n.name) one.0 in

@@ -59,9 +59,10 @@ typed_passed : (ps : List Place) (done : List Node) (t : TreeNode) (node : Node)
 typed_passed ps done t node inputs (Err c) same typed single placed known h = cc
 typed_passed ps done t node inputs (Ok schema) same typed single placed known h =
     let is : with_schemas (bare_node ps t) inputs schema ≡ node = cc in
-    subst (λ n. IsOf ps t n × Passed ps done n) is
-    (record { number = refl; name = refl; home = refl; op = refl },
-     record { single = single; placed = placed; known = known; inputs = same; typed = typed })
+    subst (λ n. IsOf ps t n × Passed ps done n) is (
+      record { number = refl; name = refl; home = refl; op = refl },
+      record { single = single; placed = placed; known = known; inputs = same; typed = typed },
+    )
 
 node_passed : (ps : List Place) (done : List Node) (t : TreeNode) (node : Node) → checked_node ps done (bare_node ps t) ≡ Ok node → IsOf ps t node × Passed ps done node
 node_passed ps done t node h = go (is_duplicate ps (bare_node ps t)) refl (is_placed done (bare_node ps t)) refl (has_unknown (references (op_of ps t))) refl h
