@@ -1,9 +1,4 @@
-pub mod CutLemmas
 pub mod EnvLemmas
 pub mod InputLemmas
 pub mod IterationLemmas
-pub mod KeyLemmas
-pub mod Numbers
-pub mod SolutionLemmas
 pub mod StateLemmas
-pub mod Steps

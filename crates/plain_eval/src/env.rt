@@ -3,7 +3,7 @@ ghost use Rattle.std.specs.List.{list_any};
 ghost use Rattle.flow_model.specs.declared.made.Made.{Made};
 ghost use Rattle.flow_model.specs.Algebra.{rows_at, and_rows, source_numbers, given};
 
-use crate::lists::copy_rows;
+use plain_ops::lists::copy_rows;
 use flow_model::made::Made;
 use flow_model::plan::Node;
 use flow_model::rows::Rows;

@@ -4,7 +4,7 @@ ghost use Rattle.plain_eval.specs.Iterations.{bulk_node_rows, delta_node_rows};
 
 use crate::body::plain_rows;
 use crate::env::{push_made, take_rows};
-use crate::held::Held;
+use plain_ops::held::Held;
 use crate::iterate::{Bulk, Delta, bulk_rows, delta_rows};
 use flow_model::made::Made;
 use flow_model::op::Op;

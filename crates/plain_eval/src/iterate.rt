@@ -5,9 +5,9 @@ ghost use Rattle.plain_eval.specs.Iterations.{bulk_rows, delta_rows};
 
 use crate::body::superstep;
 use crate::env::{rows_at, take_rows};
-use crate::held::Held;
-use crate::lists::copy_rows;
-use crate::solutions::{chosen, merged};
+use plain_ops::held::Held;
+use plain_ops::lists::copy_rows;
+use plain_ops::solutions::{chosen, merged};
 use flow_model::made::Made;
 use flow_model::op::MergeRule;
 use flow_model::plan::Node;

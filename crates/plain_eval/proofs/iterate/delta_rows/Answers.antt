@@ -3,7 +3,7 @@ use Rattle.flow_model.specs.Rows.{is_nothing}
 use Rattle.flow_model.specs.Solutions.{Solution, merged}
 use Rattle.flow_model.specs.Algebra.{Env, given, source_numbers, superstep, rows_at, DeltaState}
 use Rattle.plain_eval.proofs.EnvLemmas.{kept-superstep}
-use Rattle.plain_eval.proofs.SolutionLemmas.{is_nothing-len}
+use Rattle.plain_ops.proofs.SolutionLemmas.{is_nothing-len}
 use Rattle.plain_eval.proofs.IterationLemmas.{delta_turn, delta_end, delta_state, delta_last}
 use Rattle.plain_eval.proofs.iterate.delta_rows.Goals as goal
 

@@ -1,0 +1,5 @@
+pub mod CutLemmas
+pub mod KeyLemmas
+pub mod Numbers
+pub mod SolutionLemmas
+pub mod Steps

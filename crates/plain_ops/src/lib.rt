@@ -1,0 +1,20 @@
+//! The operations of the algebra, one by one, over lists of rows in memory: expressions, folds, joins,
+//! groups, and the solutions of delta iterations. It stands on the definitions of `flow_model`.
+//!
+//! Its one promise: each operation gives exactly the definition's list, in its order. It is slow: it
+//! goes as the definitions go.
+#![tactic(auto)]
+
+mod arithmetic;
+mod cut;
+mod folds;
+pub mod groups;
+pub mod held;
+pub mod join;
+mod keys;
+pub mod lists;
+mod rank;
+pub mod row_ops;
+pub mod solutions;
+mod value_of;
+mod values;
