@@ -1,5 +1,5 @@
 use Rattle.std.specs.Prelude.{List, map, Option, option_map}
-use Rattle.job_words.specs.declared.binding.NamedPath.{NamedPath}
+use Rattle.job_words.specs.declared.named_path.NamedPath.{NamedPath}
 use Rattle.job_words.specs.declared.request.Request.{Request}
 use Rattle.job_words.specs.declared.request.RequestTask.{RequestTask}
 use Rattle.job_words.specs.declared.request.RequestTask.TheVariants as task

@@ -5,6 +5,7 @@
 //! of that program's. No text is copied.
 #![tactic(auto)]
 
-pub mod binding;
+mod binding;
+pub mod named_path;
 pub mod program;
 pub mod request;

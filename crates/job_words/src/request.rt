@@ -1,8 +1,9 @@
-ghost use Rattle.std.specs.Prelude.{◌≡◌, ◌≤◌, ◌<◌, Some, None, drop, length, option_map, IfOk};
+ghost use Rattle.std.specs.Prelude.{IsTrue, IsErr, is_some, ◌≡◌, ◌≤◌, ◌<◌, Some, None, drop, length, option_map, IfOk};
 ghost use Rattle.job_words.specs.Words.{is_word, number_of, is_command, check_of, need_of, budget_of, bindings_of, run_with, flink_asked, plain_asked, asked_of};
 ghost use Rattle.job_words.specs.Requests.{budgeted, asked_in};
 
-use crate::binding::{NamedPath, bindings_of};
+use crate::binding::bindings_of;
+use crate::named_path::NamedPath;
 use crate::program::Program;
 use flow_outside::failure::Memory;
 use flow_outside::words::Words;
@@ -45,13 +46,15 @@ pub struct Request<'a> {
     pub task: RequestTask<'a>,
 }
 
-/// What the words of a program ask for; `None` exactly where they have no form of it. No text is copied.
+/// What the words of a program ask for; `None` exactly where they have no form of it. Memory is taken only where
+/// they have one. No text is copied.
 pub fn request_of<'a>(
     alloc: Global,
     program: Program,
     words: &'a Words,
 ) -> Result<Option<Request<'a>>, Memory>
-    ensures { IfOk result (λ request. asked_in request ≡ asked_of program words.now) }
+    ensures asked { IfOk result (λ request. asked_in request ≡ asked_of program words.now) }
+    ensures form { IsErr result → IsTrue (is_some (asked_of program words.now)) }
 {
     match program {
         Program::FlinkRun => flink_request(alloc, words),
@@ -61,7 +64,8 @@ pub fn request_of<'a>(
 
 /// What the words of `flink_run` ask for.
 fn flink_request<'a>(alloc: Global, words: &'a Words) -> Result<Option<Request<'a>>, Memory>
-    ensures { IfOk result (λ request. asked_in request ≡ flink_asked words.now) }
+    ensures asked { IfOk result (λ request. asked_in request ≡ flink_asked words.now) }
+    ensures form { IsErr result → IsTrue (is_some (flink_asked words.now)) }
 {
     match words.len() {
         0 | 1 => Ok(None),
@@ -97,7 +101,8 @@ fn need_of<'a>(command: &'a str, plan: &'a str, workers: &'a str) -> Option<Requ
 /// `run PLAN WORKERS SEGMENTS NAME=PATH..`, of at least four words.
 fn run_of<'a>(alloc: Global, words: &'a Words) -> Result<Option<Request<'a>>, Memory>
     requires { 4 ≤ length words.now }
-    ensures { IfOk result (λ request. asked_in request ≡ flink_asked words.now) }
+    ensures asked { IfOk result (λ request. asked_in request ≡ flink_asked words.now) }
+    ensures form { IsErr result → IsTrue (is_some (flink_asked words.now)) }
 {
     let plan = words.at(1);
     if words.at(0) != "run" || !is_word(plan) {
@@ -111,7 +116,8 @@ fn run_of<'a>(alloc: Global, words: &'a Words) -> Result<Option<Request<'a>>, Me
 
 /// What the words of `plain_run` ask for: `PLAN NAME=PATH..`.
 fn plain_request<'a>(alloc: Global, words: &'a Words) -> Result<Option<Request<'a>>, Memory>
-    ensures { IfOk result (λ request. asked_in request ≡ plain_asked words.now) }
+    ensures asked { IfOk result (λ request. asked_in request ≡ plain_asked words.now) }
+    ensures form { IsErr result → IsTrue (is_some (plain_asked words.now)) }
 {
     if words.len() == 0 {
         return Ok(None);
@@ -131,8 +137,9 @@ fn run_with<'a>(
     budget: Option<RunBudget>,
     from: usize,
 ) -> Result<Option<Request<'a>>, Memory>
-    ensures { IfOk result
+    ensures asked { IfOk result
         (λ request. asked_in request ≡ run_with plan.now (Some (option_map budgeted budget)) (bindings_of (drop from words.now))) }
+    ensures form { IsErr result → IsTrue (is_some (bindings_of (drop from words.now))) }
 {
     match bindings_of(alloc, words, from)? {
         None => Ok(None),
