@@ -4,18 +4,18 @@ ghost use Rattle.flow_model.specs.Algebra.{rows_at, source_numbers, given, plain
 ghost use Rattle.plain_eval.specs.Parts.{grouped_rows, joined_rows, cogrouped_rows};
 
 use crate::env::{input_at, push_made, rows_at};
-use plain_ops::groups::{cogroup_rows, distinct_rows, group_rows, top_rows};
-use plain_ops::held::Held;
-use plain_ops::join::{Meeting, join_rows};
-use plain_ops::lists::{append_copies, copy_rows};
-use plain_ops::row_ops::{filter_rows, flat_map_rows, map_rows};
-use plain_ops::solutions::probe_rows;
 use flow_model::made::Made;
 use flow_model::op::Op;
 use flow_model::plan::Node;
 use flow_model::rows::Rows;
 use flow_outside::failure::Memory;
 use flow_types::row::Row;
+use plain_ops::groups::{cogroup_rows, distinct_rows, group_rows, top_rows};
+use plain_ops::held::Held;
+use plain_ops::join::{Meeting, join_rows};
+use plain_ops::lists::{append_copies, copy_rows};
+use plain_ops::row_ops::{filter_rows, flat_map_rows, map_rows};
+use plain_ops::solutions::probe_rows;
 use std::alloc::Global;
 
 /// The rows of a node that is no iteration: of the inputs, of the solution as it stood when the

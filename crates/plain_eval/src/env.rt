@@ -3,12 +3,12 @@ ghost use Rattle.std.specs.List.{list_any};
 ghost use Rattle.flow_model.specs.declared.made.Made.{Made};
 ghost use Rattle.flow_model.specs.Algebra.{rows_at, and_rows, source_numbers, given};
 
-use plain_ops::lists::copy_rows;
 use flow_model::made::Made;
 use flow_model::plan::Node;
 use flow_model::rows::Rows;
 use flow_outside::failure::Memory;
 use flow_types::row::Row;
+use plain_ops::lists::copy_rows;
 use std::alloc::Global;
 
 /// The input of a source, by its number; no rows where there is none.

@@ -4,7 +4,6 @@ ghost use Rattle.plain_eval.specs.Iterations.{bulk_node_rows, delta_node_rows};
 
 use crate::body::plain_rows;
 use crate::env::{push_made, take_rows};
-use plain_ops::held::Held;
 use crate::iterate::{Bulk, Delta, bulk_rows, delta_rows};
 use flow_model::made::Made;
 use flow_model::op::Op;
@@ -12,6 +11,7 @@ use flow_model::plan::{Node, Plan};
 use flow_model::rows::{Inputs, Rows};
 use flow_outside::failure::Memory;
 use flow_types::row::Row;
+use plain_ops::held::Held;
 use std::alloc::Global;
 
 /// The rows of a plan's result, as the algebra gives them of the inputs, one list of rows for each

@@ -5,9 +5,6 @@ ghost use Rattle.plain_eval.specs.Iterations.{bulk_rows, delta_rows};
 
 use crate::body::superstep;
 use crate::env::{rows_at, take_rows};
-use plain_ops::held::Held;
-use plain_ops::lists::copy_rows;
-use plain_ops::solutions::{chosen, merged};
 use flow_model::made::Made;
 use flow_model::op::MergeRule;
 use flow_model::plan::Node;
@@ -15,6 +12,9 @@ use flow_model::rows::Rows;
 use flow_outside::failure::Memory;
 use flow_types::order_item::OrderItem;
 use flow_types::row::Row;
+use plain_ops::held::Held;
+use plain_ops::lists::copy_rows;
+use plain_ops::solutions::{chosen, merged};
 use sqlite_items::Items;
 use std::alloc::Global;
 

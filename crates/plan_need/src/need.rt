@@ -67,7 +67,7 @@ fn reach(plan: &Plan) -> u32
 }
 
 /// The bytes of the widest record of a plan's nodes.
-fn widest_record(plan: &Plan) -> u32
+pub fn widest_record(plan: &Plan) -> u32
     ensures number { result ≡ widest_record plan.now }
     ensures bound { result ≤ record_limit }
 {
