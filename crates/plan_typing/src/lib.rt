@@ -4,3 +4,8 @@
 //! Its one promise: `type_op` gives that schema, or exactly the first of the codes `BadField`,
 //! `BadTypes` and `BadWidth` that refuses the op.
 #![tactic(auto)]
+
+mod expr_type;
+mod schemas;
+mod widen;
+mod within;

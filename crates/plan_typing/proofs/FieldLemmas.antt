@@ -1,0 +1,2 @@
+-- Fields by their numbers.
+use Rattle.std.proofs.Common.{◌≡◌, refl}
