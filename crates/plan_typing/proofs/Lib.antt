@@ -1,3 +1,3 @@
 pub mod ToldLemmas
 pub mod WidenLemmas
-pub mod FieldLemmas
+pub mod ColumnLemmas

@@ -5,6 +5,7 @@
 //! `BadTypes` and `BadWidth` that refuses the op.
 #![tactic(auto)]
 
+mod columns;
 mod expr_type;
 mod schemas;
 mod widen;

@@ -1,2 +1,0 @@
--- Fields by their numbers.
-use Rattle.std.proofs.Common.{◌≡◌, refl}
