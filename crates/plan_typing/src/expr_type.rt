@@ -1,7 +1,8 @@
-ghost use Rattle.std.specs.Prelude.{◌≡◌, option_map, option_and_then, slice_get};
+ghost use Rattle.std.specs.Prelude.{◌≡◌, option_map, option_and_then};
 ghost use Rattle.flow_types.specs.ExprTypes.{type_of_value, widened, compared, both_long, both_bool, joined, type_of_one, type_of_two, type_of_choice, type_of_cut, is_narrow_type, typing_of};
 ghost use Rattle.plan_typing.specs.Told.{capped, told, told_type, told_one, told_two, told_choice, told_cut};
 
+use crate::schemas::field_at;
 use crate::widen::widened;
 use flow_types::expr::{BinOp, Expr, UnOp};
 use flow_types::field_type::FieldType;
@@ -46,13 +47,6 @@ fn told_type(found: Option<FieldType>, narrow: bool) -> ExprType
         found,
         narrow: narrow && fits,
     }
-}
-
-/// A field's type, by its number.
-fn field_at(fields: &[FieldType], number: u16) -> Option<FieldType>
-    ensures { result ≡ slice_get fields.now number }
-{
-    fields.get(usize::from(number)).copied()
 }
 
 /// The type of a value: a text has its own length as its bound.

@@ -7,6 +7,8 @@
 
 mod columns;
 mod expr_type;
+mod keys;
+mod op_types;
 mod schemas;
 mod widen;
 mod within;

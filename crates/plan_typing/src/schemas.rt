@@ -1,4 +1,4 @@
-ghost use Rattle.std.specs.Prelude.{◌≡◌, IfOk, [], ◌∷◌, ◌++◌, Some, slice_index_or, replicate};
+ghost use Rattle.std.specs.Prelude.{◌≡◌, IfOk, [], ◌∷◌, ◌++◌, Some, slice_get, replicate};
 ghost use Rattle.flow_types.specs.declared.field_type.FieldType.TheVariants as type;
 ghost use Rattle.flow_model.specs.Schemas.{input_at};
 ghost use Rattle.plan_typing.specs.Typing.{in_width};
@@ -20,6 +20,13 @@ pub fn input_at(inputs: &[Schema], place: usize) -> &[FieldType]
         Some(schema) => schema.fields(),
         None => &[],
     }
+}
+
+/// A field's type, by its number from 0; `None` where it isn't there.
+pub fn field_at(fields: &[FieldType], number: u16) -> Option<FieldType>
+    ensures { result ≡ slice_get fields.now number }
+{
+    fields.get(usize::from(number)).copied()
 }
 
 /// The schema of these types; `BadWidth` where they are no schema's.

@@ -1,0 +1,143 @@
+ghost use Rattle.std.specs.Prelude.{◌≡◌, ◌+◌, ◌++◌, ◌&&◌, true, IfOk, length, is_some, option_and_then};
+ghost use Rattle.std.specs.List.{list_all};
+ghost use Rattle.flow_types.specs.ExprTypes.{is_within};
+ghost use Rattle.flow_model.specs.Schemas.{only_if, is_test, all_widened, is_fold, long_each, has_order, columns_type, tested, branch_types, group_type, ranked, keys_type, default_fits, join_type, cogroup_type};
+ghost use Rattle.plan_typing.specs.Typing.{is_key_within, are_as_long, are_within, is_branch_within, is_fold_within, have_types, branch_columns, in_types, in_fields};
+ghost use Rattle.plan_typing.specs.Sides.{sides_of, have_pair_types, pairs_type};
+
+use crate::columns::{branches_of, columns_of, schema_of_columns, tested};
+use crate::keys::{Sides, are_as_long, are_folds, default_fits, fields_at, joined_fields, keys_type};
+use crate::schemas::{Typed, push_longs, schema_like, schema_of};
+use crate::widen::all_widened;
+use crate::within::{are_branches_within, are_folds_within, are_within, has_order, is_key_within, is_within};
+use flow_model::op::Branch;
+use flow_model::plan_code::PlanCode;
+use flow_outside::failure::Memory;
+use flow_types::agg::Agg;
+use flow_types::expr::Expr;
+use flow_types::field_type::FieldType;
+use flow_types::order_item::OrderItem;
+use flow_types::row::Row;
+use flow_types::schema::Schema;
+use std::alloc::Global;
+
+/// The schema of columns over fields whose numbers are right.
+#[tactic(auto, using(crate::proofs::OpLemmas::columns_schema))]
+fn typed_columns(
+    alloc: Global,
+    fields: &[FieldType],
+    columns: &[Expr],
+) -> Result<Typed<Schema>, Memory>
+    ensures { IfOk result
+        (λ r. r ≡ in_types (have_types fields.now columns.now) (columns_type fields.now columns.now)) }
+{
+    let columns = columns_of(alloc, fields, columns)?;
+    Ok(schema_of_columns(columns))
+}
+
+/// The schema of a map's rows.
+pub fn type_map(
+    alloc: Global,
+    fields: &[FieldType],
+    columns: &[Expr],
+) -> Result<Typed<Schema>, Memory>
+    ensures { IfOk result (λ r. r ≡ in_fields (are_within (length fields.now) columns.now)
+        (have_types fields.now columns.now) (columns_type fields.now columns.now)) }
+{
+    if !are_within(fields.len(), columns) {
+        return Ok(Err(PlanCode::BadField));
+    }
+    typed_columns(alloc, fields, columns)
+}
+
+/// The schema of a filter's rows.
+pub fn type_filter(
+    alloc: Global,
+    fields: &[FieldType],
+    test: &Expr,
+) -> Result<Typed<Schema>, Memory>
+    ensures { IfOk result (λ r. r ≡ in_fields (is_within (length fields.now) test.now)
+        (is_test fields.now test.now) (tested fields.now test.now)) }
+{
+    if !is_within(fields.len(), test) {
+        return Ok(Err(PlanCode::BadField));
+    }
+    tested(alloc, fields, test)
+}
+
+/// The schema of a union's rows.
+pub fn type_union(alloc: Global, inputs: &[Schema]) -> Result<Typed<Schema>, Memory>
+    ensures { IfOk result
+        (λ r. r ≡ in_types (is_some (all_widened inputs.now)) (all_widened inputs.now)) }
+{
+    match all_widened(alloc, inputs)? {
+        Some(types) => Ok(schema_of(types)),
+        None => Ok(Err(PlanCode::BadTypes)),
+    }
+}
+
+/// The schema of groups.
+#[tactic(auto, using(crate::proofs::OpLemmas::key_within))]
+pub fn type_group(
+    alloc: Global,
+    fields: &[FieldType],
+    key: &[u16],
+    folds: &[Agg],
+) -> Result<Typed<Schema>, Memory>
+    ensures { IfOk result (λ r. r ≡ in_fields
+        (is_key_within (length fields.now) key.now && list_all (is_fold_within (length fields.now)) folds.now)
+        (list_all (is_fold fields.now) folds.now) (group_type fields.now key.now folds.now)) }
+{
+    let Some(mut types) = fields_at(alloc, fields, key)? else {
+        return Ok(Err(PlanCode::BadField));
+    };
+    if !are_folds_within(fields.len(), folds) {
+        return Ok(Err(PlanCode::BadField));
+    }
+    if !are_folds(fields, folds) {
+        return Ok(Err(PlanCode::BadTypes));
+    }
+    push_longs(&mut types, folds.len())?;
+    Ok(schema_of(types))
+}
+
+/// The schema of rows that are ranked by key and order: their own.
+#[tactic(auto, using(crate::proofs::OpLemmas::ranked_schema))]
+pub fn type_ranked(
+    alloc: Global,
+    fields: &[FieldType],
+    key: &[u16],
+    order: &[OrderItem],
+) -> Result<Typed<Schema>, Memory>
+    ensures { IfOk result (λ r. r ≡ in_fields
+        (is_key_within (length fields.now) key.now && has_order fields.now order.now)
+        true (ranked fields.now key.now order.now)) }
+{
+    if !is_key_within(fields.len(), key) || !has_order(fields, order) {
+        return Ok(Err(PlanCode::BadField));
+    }
+    schema_like(alloc, fields)
+}
+
+/// The schema of columns over rows of both sides that have one key, where the field numbers are right;
+/// `fit` says whether the defaults fit.
+#[tactic(auto, using(crate::proofs::OpLemmas::pairs_schema, crate::proofs::OpLemmas::pairs_unfit))]
+fn typed_pairs(
+    alloc: Global,
+    sides: &Sides<'_>,
+    columns: &[Expr],
+    fit: bool,
+) -> Result<Typed<Schema>, Memory>
+    ensures { IfOk result (λ r. r ≡ in_types
+        (have_pair_types (sides_of sides.now) columns.now fit)
+        (pairs_type (sides_of sides.now) columns.now fit)) }
+{
+    let Some(_) = keys_type(alloc, sides)? else {
+        return Ok(Err(PlanCode::BadTypes));
+    };
+    if !fit {
+        return Ok(Err(PlanCode::BadTypes));
+    }
+    let fields = joined_fields(alloc, sides)?;
+    typed_columns(alloc, fields.as_slice(), columns)
+}
