@@ -7,14 +7,15 @@ use Rattle.flow_types.specs.Limits.{text_limit, field_limit, record_limit}
 use Rattle.flow_types.specs.declared.field_type.FieldType.{FieldType}
 use Rattle.flow_types.specs.declared.field_type.FieldType.TheVariants as type
 use Rattle.flow_types.specs.declared.expr.Expr.{Expr}
+use Rattle.flow_types.specs.Tuples.{Tuple}
 use Rattle.flow_types.specs.Types.{Fields, is_bounded, is_schema, widest}
 use Rattle.flow_types.specs.ExprTypes.{◌>>=◌, widened}
 use Rattle.flow_model.specs.declared.plan_code.PlanCode.TheVariants as code
 use Rattle.flow_types.specs.declared.order_item.OrderItem.{OrderItem}
-use Rattle.flow_model.specs.Schemas.{only_if, first_and_others, types_of, fields_at, are_narrow, columns_type, has_order, ranked}
-use Rattle.plan_typing.specs.Typing.{is_key_within, in_width, in_types, have_types}
+use Rattle.flow_model.specs.Schemas.{only_if, first_and_others, types_of, fields_at, are_narrow, columns_type, has_order, ranked, default_fits}
+use Rattle.plan_typing.specs.Typing.{is_key_within, in_width, in_types, in_fields, have_types}
 use Rattle.plan_typing.specs.Told.{told_limit, capped, ColumnTypes, told_columns, schema_of_columns}
-use Rattle.plan_typing.specs.Sides.{SideTypes, keys_of, fields_of, have_pair_types, pairs_type}
+use Rattle.plan_typing.specs.Sides.{SideTypes, keys_of, fields_of, have_pair_types, pairs_type, has_join_fields, typed_join}
 use Rattle.plan_typing.proofs.ToldLemmas.{bound_told}
 
 -- Types that are told are a schema where the types themselves are, and are then these.
@@ -119,3 +120,12 @@ pairs_unfit s columns = go (is_some (keys_of s) && have_types (fields_of s) colu
     go : (b : Bool) → in_types (b && false) (pairs_type s columns false) ≡ Err code.BadTypes
     go true = refl
     go false = refl
+
+-- a join's schema is that of columns over its sides
+pub join_schema : (s : SideTypes) (columns : List Expr) (left_default right_default : Option Tuple) → has_join_fields s columns ≡ true → in_types (have_pair_types s columns (default_fits s.left left_default && default_fits s.right right_default)) (pairs_type s columns (default_fits s.left left_default && default_fits s.right right_default)) ≡ typed_join s columns left_default right_default
+join_schema s columns left_default right_default h = go (has_join_fields s columns) h (is_some (keys_of s) && have_types (fields_of s) columns) (default_fits s.left left_default) (default_fits s.right right_default)
+  where
+    go : (w : Bool) → w ≡ true → (b l r : Bool) → in_types (b && (l && r)) (pairs_type s columns (default_fits s.left left_default && default_fits s.right right_default)) ≡ in_fields w (b && l && r) (pairs_type s columns (default_fits s.left left_default && default_fits s.right right_default))
+    go true h true l r = refl
+    go true h false l r = refl
+    go false h b l r = cc

@@ -3,7 +3,7 @@ ghost use Rattle.std.specs.List.{list_all};
 ghost use Rattle.flow_types.specs.ExprTypes.{is_within};
 ghost use Rattle.flow_model.specs.Schemas.{only_if, is_test, all_widened, is_fold, long_each, has_order, columns_type, tested, branch_types, group_type, ranked, keys_type, default_fits, join_type, cogroup_type};
 ghost use Rattle.plan_typing.specs.Typing.{is_key_within, are_as_long, are_within, is_branch_within, is_fold_within, have_types, branch_columns, in_types, in_fields};
-ghost use Rattle.plan_typing.specs.Sides.{sides_of, have_pair_types, pairs_type};
+ghost use Rattle.plan_typing.specs.Sides.{sides_of, have_pair_types, pairs_type, typed_join, typed_probe, typed_cogroup};
 
 use crate::columns::{branches_of, columns_of, schema_of_columns, tested};
 use crate::keys::{Sides, are_as_long, are_folds, default_fits, fields_at, joined_fields, keys_type};
@@ -63,6 +63,26 @@ pub fn type_filter(
         return Ok(Err(PlanCode::BadField));
     }
     tested(alloc, fields, test)
+}
+
+/// The schema of a flat map's rows.
+#[tactic(auto, using(crate::proofs::BranchLemmas::branches_schema))]
+pub fn type_flat_map(
+    alloc: Global,
+    fields: &[FieldType],
+    rows: &[Branch],
+) -> Result<Typed<Schema>, Memory>
+    ensures { IfOk result
+        (λ r. r ≡ in_fields (list_all (is_branch_within (length fields.now)) rows.now)
+        (list_all (λ b. is_test fields.now b.when) rows.now
+        && is_some (option_and_then all_widened (branch_columns fields.now rows.now)))
+        (option_and_then all_widened (branch_types fields.now rows.now))) }
+{
+    if !are_branches_within(fields.len(), rows) {
+        return Ok(Err(PlanCode::BadField));
+    }
+    let columns = branches_of(alloc, fields, rows)?;
+    Ok(schema_of_columns(columns))
 }
 
 /// The schema of a union's rows.
@@ -140,4 +160,77 @@ fn typed_pairs(
     }
     let fields = joined_fields(alloc, sides)?;
     typed_columns(alloc, fields.as_slice(), columns)
+}
+
+/// The schema of a join's rows.
+#[tactic(auto, using(crate::proofs::OpLemmas::join_schema))]
+pub fn type_join(
+    alloc: Global,
+    sides: &Sides<'_>,
+    columns: &[Expr],
+    left_default: &Option<Row>,
+    right_default: &Option<Row>,
+) -> Result<Typed<Schema>, Memory>
+    ensures { IfOk result
+        (λ r. r ≡ typed_join (sides_of sides.now) columns.now left_default.now right_default.now) }
+{
+    let left_count = sides.left.len();
+    let right_count = sides.right.len();
+    if !is_key_within(left_count, sides.left_key)
+        || !is_key_within(right_count, sides.right_key)
+        || !are_as_long(sides.left_key, sides.right_key)
+        || !are_within(left_count + right_count, columns)
+    {
+        return Ok(Err(PlanCode::BadField));
+    }
+    let fit =
+        default_fits(sides.left, left_default) && default_fits(sides.right, right_default);
+    typed_pairs(alloc, sides, columns, fit)
+}
+
+/// The schema of a probe's rows, whose right side is the solution of the iteration that it stands in.
+pub fn type_probe(
+    alloc: Global,
+    sides: &Sides<'_>,
+    columns: &[Expr],
+) -> Result<Typed<Schema>, Memory>
+    ensures { IfOk result (λ r. r ≡ typed_probe (sides_of sides.now) columns.now) }
+{
+    let count = sides.left.len() + sides.right.len();
+    if !is_key_within(sides.left.len(), sides.left_key)
+        || !are_as_long(sides.left_key, sides.right_key)
+        || !are_within(count, columns)
+    {
+        return Ok(Err(PlanCode::BadField));
+    }
+    typed_pairs(alloc, sides, columns, true)
+}
+
+/// The schema of a cogroup's rows.
+pub fn type_cogroup(
+    alloc: Global,
+    sides: &Sides<'_>,
+    left_folds: &[Agg],
+    right_folds: &[Agg],
+) -> Result<Typed<Schema>, Memory>
+    ensures { IfOk result
+        (λ r. r ≡ typed_cogroup (sides_of sides.now) left_folds.now right_folds.now) }
+{
+    if !is_key_within(sides.left.len(), sides.left_key)
+        || !is_key_within(sides.right.len(), sides.right_key)
+        || !are_as_long(sides.left_key, sides.right_key)
+        || !are_folds_within(sides.left.len(), left_folds)
+        || !are_folds_within(sides.right.len(), right_folds)
+    {
+        return Ok(Err(PlanCode::BadField));
+    }
+    let Some(mut types) = keys_type(alloc, sides)? else {
+        return Ok(Err(PlanCode::BadTypes));
+    };
+    if !are_folds(sides.left, left_folds) || !are_folds(sides.right, right_folds) {
+        return Ok(Err(PlanCode::BadTypes));
+    }
+    push_longs(&mut types, left_folds.len())?;
+    push_longs(&mut types, right_folds.len())?;
+    Ok(schema_of(types))
 }
