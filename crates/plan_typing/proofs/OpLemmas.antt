@@ -1,6 +1,6 @@
 -- The schema of an op, by what is told of its columns.
-use Rattle.std.proofs.Common.{◌≡◌, ℕ, zero, suc, ◌+◌, ◌≤◌, Bool, true, false, ◌&&◌, nat_le, List, [], ◌∷◌, ◌++◌, length, map, Option, Some, None, Err, refl, sym, ap, ◌∙◌, arith}
-use Rattle.std.specs.Prelude.{min, sum_by, nat_lt, is_some, option_map, slice_get}
+use Rattle.std.proofs.Common.{◌≡◌, ℕ, zero, suc, ◌+◌, ◌≤◌, Bool, true, false, ◌&&◌, nat_le, List, [], ◌∷◌, ◌++◌, length, map, Option, Some, None, Result, Err, refl, sym, ap, ◌∙◌, subst, arith}
+use Rattle.std.specs.Prelude.{nat_lt, is_some, option_map, slice_get, IfOk}
 use Rattle.std.specs.List.{list_all}
 use Rattle.std.proofs.lemmas.Bool.Decides.{nat_tests}
 use Rattle.flow_types.specs.Limits.{text_limit, field_limit, record_limit}
@@ -10,6 +10,7 @@ use Rattle.flow_types.specs.declared.expr.Expr.{Expr}
 use Rattle.flow_types.specs.Tuples.{Tuple}
 use Rattle.flow_types.specs.Types.{Fields, is_bounded, is_schema, widest}
 use Rattle.flow_types.specs.ExprTypes.{◌>>=◌, widened}
+use Rattle.flow_model.specs.declared.plan_code.PlanCode.{PlanCode}
 use Rattle.flow_model.specs.declared.plan_code.PlanCode.TheVariants as code
 use Rattle.flow_types.specs.declared.order_item.OrderItem.{OrderItem}
 use Rattle.flow_model.specs.Schemas.{only_if, first_and_others, types_of, fields_at, are_narrow, columns_type, has_order, ranked, default_fits}
@@ -129,3 +130,7 @@ join_schema s columns left_default right_default h = go (has_join_fields s colum
     go true h true l r = refl
     go true h false l r = refl
     go false h b l r = cc
+
+-- an answer of one schema is one of an equal schema
+pub on_ok : {E : Type 0} (r : Result (Result Fields PlanCode) E) (s t : Result Fields PlanCode) → IfOk r (λ x. x ≡ s) → s ≡ t → IfOk r (λ x. x ≡ t)
+on_ok r s t h e = subst (λ z. IfOk r (λ x. x ≡ z)) e h

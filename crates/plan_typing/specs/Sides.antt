@@ -6,7 +6,7 @@ use Rattle.flow_types.specs.Tuples.{Tuple}
 use Rattle.flow_types.specs.Types.{Fields}
 use Rattle.flow_types.specs.ExprTypes.{◌>>=◌}
 use Rattle.flow_model.specs.declared.plan_code.PlanCode.{PlanCode}
-use Rattle.flow_model.specs.Schemas.{only_if, is_fold, keys_type, columns_type, default_fits, join_type, cogroup_type}
+use Rattle.flow_model.specs.Schemas.{only_if, is_fold, keys_type, columns_type, default_fits, join_type, cogroup_type, input_at}
 use Rattle.plan_typing.specs.declared.keys.Sides.{Sides}
 use Rattle.plan_typing.specs.Typing.{is_key_within, are_as_long, are_within, is_fold_within, have_types, in_fields}
 
@@ -20,6 +20,11 @@ pub record SideTypes : Type 0 where
 -- what code has of them
 abbrev pub sides_of : Sides → SideTypes
 sides_of s = record { left = s.left.now; right = s.right.now; left_key = s.left_key.now; right_key = s.right_key.now }
+
+-- the sides of an op that takes two inputs
+abbrev pub side_types : List Fields → List ℕ → List ℕ → SideTypes
+side_types inputs left_key right_key =
+    record { left = input_at inputs 0; right = input_at inputs 1; left_key = left_key; right_key = right_key }
 
 -- the key's types on both sides, widened
 abbrev pub keys_of : SideTypes → Option Fields

@@ -3,23 +3,37 @@ ghost use Rattle.std.specs.List.{list_all};
 ghost use Rattle.flow_types.specs.Types.{fits};
 ghost use Rattle.flow_model.specs.Schemas.{fields_at, keys_type, is_long_field, is_fold, default_fits};
 ghost use Rattle.plan_typing.specs.Typing.{are_as_long};
-ghost use Rattle.plan_typing.specs.Sides.{sides_of, keys_of, fields_of};
+ghost use Rattle.plan_typing.specs.Sides.{sides_of, side_types, keys_of, fields_of};
 
-use crate::schemas::{copy_of, field_at, push};
+use crate::schemas::{copy_of, field_at, input_at, push};
 use crate::widen::both_widened;
 use flow_outside::failure::Memory;
 use flow_types::agg::Agg;
 use flow_types::field_type::FieldType;
 use flow_types::row::Row;
+use flow_types::schema::Schema;
 use flow_types::value::Value;
 use std::alloc::Global;
 
 /// The two sides of an op, and the key of each.
+#[derive(Clone, Copy)]
 pub struct Sides<'a> {
     pub left: &'a [FieldType],
     pub right: &'a [FieldType],
     pub left_key: &'a [u16],
     pub right_key: &'a [u16],
+}
+
+/// The sides of an op that takes two inputs.
+pub fn two_sides<'a>(inputs: &'a [Schema], left_key: &'a [u16], right_key: &'a [u16]) -> Sides<'a>
+    ensures { sides_of result ≡ side_types inputs.now left_key.now right_key.now }
+{
+    Sides {
+        left: input_at(inputs, 0),
+        right: input_at(inputs, 1),
+        left_key,
+        right_key,
+    }
 }
 
 /// The types of fields by their numbers; `None` where one isn't there.

@@ -7,8 +7,12 @@
 
 mod columns;
 mod expr_type;
+pub mod fit;
 mod keys;
 mod op_types;
+pub mod ops;
 mod schemas;
+#[cfg(test)]
+mod tests;
 mod widen;
 mod within;

@@ -1,8 +1,7 @@
-ghost use Rattle.std.specs.Prelude.{◌≡◌, ◌+◌, ◌++◌, ◌&&◌, true, IfOk, length, is_some, option_and_then};
-ghost use Rattle.std.specs.List.{list_all};
-ghost use Rattle.flow_types.specs.ExprTypes.{is_within};
-ghost use Rattle.flow_model.specs.Schemas.{only_if, is_test, all_widened, is_fold, long_each, has_order, columns_type, tested, branch_types, group_type, ranked, keys_type, default_fits, join_type, cogroup_type};
-ghost use Rattle.plan_typing.specs.Typing.{is_key_within, are_as_long, are_within, is_branch_within, is_fold_within, have_types, branch_columns, in_types, in_fields};
+ghost use Rattle.std.specs.Prelude.{◌≡◌, IfOk};
+ghost use Rattle.flow_model.specs.Schemas.{columns_type};
+ghost use Rattle.plan_typing.specs.Typing.{have_types, in_types};
+ghost use Rattle.plan_typing.specs.Ops.{typed_map, typed_filter, typed_flat_map, typed_union, typed_group, typed_ranked};
 ghost use Rattle.plan_typing.specs.Sides.{sides_of, have_pair_types, pairs_type, typed_join, typed_probe, typed_cogroup};
 
 use crate::columns::{branches_of, columns_of, schema_of_columns, tested};
@@ -41,8 +40,7 @@ pub fn type_map(
     fields: &[FieldType],
     columns: &[Expr],
 ) -> Result<Typed<Schema>, Memory>
-    ensures { IfOk result (λ r. r ≡ in_fields (are_within (length fields.now) columns.now)
-        (have_types fields.now columns.now) (columns_type fields.now columns.now)) }
+    ensures { IfOk result (λ r. r ≡ typed_map fields.now columns.now) }
 {
     if !are_within(fields.len(), columns) {
         return Ok(Err(PlanCode::BadField));
@@ -56,8 +54,7 @@ pub fn type_filter(
     fields: &[FieldType],
     test: &Expr,
 ) -> Result<Typed<Schema>, Memory>
-    ensures { IfOk result (λ r. r ≡ in_fields (is_within (length fields.now) test.now)
-        (is_test fields.now test.now) (tested fields.now test.now)) }
+    ensures { IfOk result (λ r. r ≡ typed_filter fields.now test.now) }
 {
     if !is_within(fields.len(), test) {
         return Ok(Err(PlanCode::BadField));
@@ -72,11 +69,7 @@ pub fn type_flat_map(
     fields: &[FieldType],
     rows: &[Branch],
 ) -> Result<Typed<Schema>, Memory>
-    ensures { IfOk result
-        (λ r. r ≡ in_fields (list_all (is_branch_within (length fields.now)) rows.now)
-        (list_all (λ b. is_test fields.now b.when) rows.now
-        && is_some (option_and_then all_widened (branch_columns fields.now rows.now)))
-        (option_and_then all_widened (branch_types fields.now rows.now))) }
+    ensures { IfOk result (λ r. r ≡ typed_flat_map fields.now rows.now) }
 {
     if !are_branches_within(fields.len(), rows) {
         return Ok(Err(PlanCode::BadField));
@@ -87,8 +80,7 @@ pub fn type_flat_map(
 
 /// The schema of a union's rows.
 pub fn type_union(alloc: Global, inputs: &[Schema]) -> Result<Typed<Schema>, Memory>
-    ensures { IfOk result
-        (λ r. r ≡ in_types (is_some (all_widened inputs.now)) (all_widened inputs.now)) }
+    ensures { IfOk result (λ r. r ≡ typed_union inputs.now) }
 {
     match all_widened(alloc, inputs)? {
         Some(types) => Ok(schema_of(types)),
@@ -104,9 +96,7 @@ pub fn type_group(
     key: &[u16],
     folds: &[Agg],
 ) -> Result<Typed<Schema>, Memory>
-    ensures { IfOk result (λ r. r ≡ in_fields
-        (is_key_within (length fields.now) key.now && list_all (is_fold_within (length fields.now)) folds.now)
-        (list_all (is_fold fields.now) folds.now) (group_type fields.now key.now folds.now)) }
+    ensures { IfOk result (λ r. r ≡ typed_group fields.now key.now folds.now) }
 {
     let Some(mut types) = fields_at(alloc, fields, key)? else {
         return Ok(Err(PlanCode::BadField));
@@ -129,9 +119,7 @@ pub fn type_ranked(
     key: &[u16],
     order: &[OrderItem],
 ) -> Result<Typed<Schema>, Memory>
-    ensures { IfOk result (λ r. r ≡ in_fields
-        (is_key_within (length fields.now) key.now && has_order fields.now order.now)
-        true (ranked fields.now key.now order.now)) }
+    ensures { IfOk result (λ r. r ≡ typed_ranked fields.now key.now order.now) }
 {
     if !is_key_within(fields.len(), key) || !has_order(fields, order) {
         return Ok(Err(PlanCode::BadField));

@@ -1,6 +1,6 @@
 ghost use Rattle.std.specs.Prelude.{◌≡◌, IfOk, option_map};
 ghost use Rattle.flow_types.specs.ExprTypes.{widened};
-ghost use Rattle.flow_model.specs.Schemas.{takes, fits_schema, both_widened, all_widened};
+ghost use Rattle.flow_model.specs.Schemas.{both_widened, all_widened};
 
 use crate::schemas::{copy_of, push};
 use flow_outside::failure::Memory;
@@ -18,34 +18,6 @@ pub fn widened(a: FieldType, b: FieldType) -> Option<FieldType>
         (FieldType::Str(m), FieldType::Str(n)) => Some(FieldType::Str(m.max(n))),
         _ => None,
     }
-}
-
-/// Whether a type has the values of another: one kind, and no smaller bound.
-fn takes(into: FieldType, from: FieldType) -> bool
-    ensures { result ≡ takes into from }
-{
-    match (into, from) {
-        (FieldType::Long, FieldType::Long) => true,
-        (FieldType::Bool, FieldType::Bool) => true,
-        (FieldType::Str(m), FieldType::Str(n)) => n <= m,
-        _ => false,
-    }
-}
-
-/// Whether a schema's rows fit another's: the same kinds in the same places, and no text's bound
-/// exceeds the other's. The cost is proportional to the fields.
-pub fn fits_schema(from: &[FieldType], into: &[FieldType]) -> bool
-    ensures { result ≡ fits_schema from.now into.now }
-{
-    if from.len() != into.len() {
-        return false;
-    }
-    for i in 0..from.len() {
-        if !takes(into[i], from[i]) {
-            return false;
-        }
-    }
-    true
 }
 
 /// The types that have the values of both lists of types, place by place; `None` where the lists
