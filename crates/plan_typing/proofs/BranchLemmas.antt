@@ -1,15 +1,14 @@
 -- What is told of all branches is their schema.
-use Rattle.std.proofs.Common.{◌≡◌, ℕ, Bool, true, false, ◌&&◌, List, [], ◌∷◌, map, Option, Some, None, Err, refl, sym, ap, ◌∙◌}
+use Rattle.std.proofs.Common.{◌≡◌, Bool, true, false, ◌&&◌, List, [], ◌∷◌, map, Option, Some, None, Err, refl, sym, ap, ◌∙◌}
 use Rattle.std.specs.Prelude.{is_some, option_map}
 use Rattle.std.specs.List.{list_all}
 use Rattle.flow_types.specs.declared.field_type.FieldType.{FieldType}
-use Rattle.flow_types.specs.declared.expr.Expr.{Expr}
 use Rattle.flow_types.specs.Types.{Fields}
 use Rattle.flow_types.specs.ExprTypes.{◌>>=◌, widened, typing_of}
 use Rattle.flow_model.specs.declared.op.Branch.{Branch}
 use Rattle.flow_model.specs.declared.plan_code.PlanCode.TheVariants as code
-use Rattle.flow_model.specs.Schemas.{only_if, first_and_others, types_of, is_test, both_widened, all_widened, are_narrow, branch_type, branch_types}
-use Rattle.plan_typing.specs.Typing.{in_width, in_types, branch_columns}
+use Rattle.flow_model.specs.Schemas.{only_if, first_and_others, types_of, is_test, both_widened, all_widened, are_narrow, branch_types}
+use Rattle.plan_typing.specs.Typing.{in_types, branch_columns}
 use Rattle.plan_typing.specs.Told.{capped, ColumnTypes, behind_test, told_branch, both_columns, told_branches, schema_of_columns}
 use Rattle.plan_typing.proofs.ToldLemmas.{capped_widened}
 use Rattle.plan_typing.proofs.ColumnLemmas.{column_types}

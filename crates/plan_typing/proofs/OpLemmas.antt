@@ -1,5 +1,5 @@
 -- The schema of an op, by what is told of its columns.
-use Rattle.std.proofs.Common.{◌≡◌, ℕ, zero, suc, ◌+◌, ◌≤◌, Bool, true, false, ◌&&◌, nat_le, List, [], ◌∷◌, ◌++◌, length, map, Option, Some, None, Result, Err, refl, sym, ap, ◌∙◌, subst, arith}
+use Rattle.std.proofs.Common.{◌≡◌, ℕ, zero, suc, ◌≤◌, Bool, true, false, ◌&&◌, nat_le, List, [], ◌∷◌, length, map, Option, Some, None, Result, Err, refl, sym, ap, ◌∙◌, subst, arith}
 use Rattle.std.specs.Prelude.{nat_lt, is_some, option_map, slice_get, IfOk}
 use Rattle.std.specs.List.{list_all}
 use Rattle.std.proofs.lemmas.Bool.Decides.{nat_tests}
@@ -9,13 +9,13 @@ use Rattle.flow_types.specs.declared.field_type.FieldType.TheVariants as type
 use Rattle.flow_types.specs.declared.expr.Expr.{Expr}
 use Rattle.flow_types.specs.Tuples.{Tuple}
 use Rattle.flow_types.specs.Types.{Fields, is_bounded, is_schema, widest}
-use Rattle.flow_types.specs.ExprTypes.{◌>>=◌, widened}
+use Rattle.flow_types.specs.ExprTypes.{◌>>=◌}
 use Rattle.flow_model.specs.declared.plan_code.PlanCode.{PlanCode}
 use Rattle.flow_model.specs.declared.plan_code.PlanCode.TheVariants as code
 use Rattle.flow_types.specs.declared.order_item.OrderItem.{OrderItem}
 use Rattle.flow_model.specs.Schemas.{only_if, first_and_others, types_of, fields_at, are_narrow, columns_type, has_order, ranked, default_fits}
 use Rattle.plan_typing.specs.Typing.{is_key_within, in_width, in_types, in_fields, have_types}
-use Rattle.plan_typing.specs.Told.{told_limit, capped, ColumnTypes, told_columns, schema_of_columns}
+use Rattle.plan_typing.specs.Told.{capped, told_columns, schema_of_columns}
 use Rattle.plan_typing.specs.Sides.{SideTypes, keys_of, fields_of, have_pair_types, pairs_type, has_join_fields, typed_join}
 use Rattle.plan_typing.proofs.ToldLemmas.{bound_told}
 

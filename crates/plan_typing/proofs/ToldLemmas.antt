@@ -1,6 +1,6 @@
 -- What is told of an expression comes from what is told of its parts.
-use Rattle.std.proofs.Common.{◌≡◌, ℕ, ◌+◌, ◌≤◌, Bool, true, false, ◌&&◌, nat_le, Option, Some, None, refl, sym, ap, ◌∙◌, arith}
-use Rattle.std.specs.Prelude.{min, max, option_map}
+use Rattle.std.proofs.Common.{◌≡◌, ℕ, Bool, ◌&&◌, nat_le, Option, Some, None, refl, sym, ap, ◌∙◌, arith}
+use Rattle.std.specs.Prelude.{min, option_map}
 use Rattle.std.proofs.lemmas.Bool.Decides.{nat_tests}
 use Rattle.flow_types.specs.Limits.{text_limit}
 use Rattle.flow_types.specs.declared.field_type.FieldType.{FieldType}
@@ -12,7 +12,6 @@ use Rattle.flow_types.specs.declared.expr.Expr.TheVariants as expr
 use Rattle.flow_types.specs.Types.{Fields}
 use Rattle.flow_types.specs.ExprTypes.{◌>>=◌, Typing, typing_of, typing_layer, is_narrow_type, widened, compared, both_long, both_bool, joined, type_of_two, type_of_choice}
 use Rattle.flow_types.proofs.ExprEquations.{fold-Bin, fold-If}
-use Rattle.plan_typing.specs.declared.expr_type.ExprType.{ExprType}
 use Rattle.plan_typing.specs.Told.{told_limit, capped, told, told_type, told_two, told_choice}
 
 -- a bound is past a text's limit exactly where what is told of it is

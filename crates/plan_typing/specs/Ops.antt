@@ -1,4 +1,4 @@
-use Rattle.std.specs.Prelude.{ℕ, Bool, true, ◌&&◌, List, length, is_some, Result}
+use Rattle.std.specs.Prelude.{ℕ, true, ◌&&◌, List, length, is_some, Result}
 use Rattle.std.specs.List.{list_all}
 use Rattle.flow_types.specs.declared.agg.Agg.{Agg}
 use Rattle.flow_types.specs.declared.expr.Expr.{Expr}
@@ -17,12 +17,6 @@ typed_map fields columns = in_fields (are_within (length fields) columns) (have_
 
 abbrev pub typed_filter : Fields → Expr → Result Fields PlanCode
 typed_filter fields test = in_fields (is_within (length fields) test) (is_test fields test) (tested fields test)
-
--- the rows' schema of a flat map whose field numbers are right
-abbrev pub typed_rows : Fields → List Branch → Result Fields PlanCode
-typed_rows fields rows =
-    in_types (list_all (λ (b : Branch). is_test fields b.when) rows && is_some (branch_columns fields rows >>= all_widened))
-    (branch_types fields rows >>= all_widened)
 
 abbrev pub typed_flat_map : Fields → List Branch → Result Fields PlanCode
 typed_flat_map fields rows =

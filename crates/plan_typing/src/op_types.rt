@@ -5,11 +5,15 @@ ghost use Rattle.plan_typing.specs.Ops.{typed_map, typed_filter, typed_flat_map,
 ghost use Rattle.plan_typing.specs.Sides.{sides_of, have_pair_types, pairs_type, typed_join, typed_probe, typed_cogroup};
 
 use crate::columns::{branches_of, columns_of, schema_of_columns, tested};
-use crate::keys::{Sides, are_as_long, are_folds, default_fits, fields_at, joined_fields, keys_type};
+use crate::keys::{
+    Sides, are_as_long, are_folds, default_fits, fields_at, joined_fields, keys_type,
+};
 use crate::schemas::{Typed, push_longs, schema_like, schema_of};
 use crate::widen::all_widened;
-use crate::within::{are_branches_within, are_folds_within, are_within, has_order, is_key_within, is_within};
-use flow_model::op::Branch;
+use crate::within::{
+    are_branches_within, are_folds_within, are_within, has_order, is_key_within, is_within,
+};
+use flow_model::op::{Branch, ExprList};
 use flow_model::plan_code::PlanCode;
 use flow_outside::failure::Memory;
 use flow_types::agg::Agg;
@@ -155,7 +159,7 @@ fn typed_pairs(
 pub fn type_join(
     alloc: Global,
     sides: &Sides<'_>,
-    columns: &[Expr],
+    columns: &ExprList,
     left_default: &Option<Row>,
     right_default: &Option<Row>,
 ) -> Result<Typed<Schema>, Memory>
@@ -167,13 +171,12 @@ pub fn type_join(
     if !is_key_within(left_count, sides.left_key)
         || !is_key_within(right_count, sides.right_key)
         || !are_as_long(sides.left_key, sides.right_key)
-        || !are_within(left_count + right_count, columns)
+        || !are_within(left_count + right_count, columns.as_slice())
     {
         return Ok(Err(PlanCode::BadField));
     }
-    let fit =
-        default_fits(sides.left, left_default) && default_fits(sides.right, right_default);
-    typed_pairs(alloc, sides, columns, fit)
+    let fit = default_fits(sides.left, left_default) && default_fits(sides.right, right_default);
+    typed_pairs(alloc, sides, columns.as_slice(), fit)
 }
 
 /// The schema of a probe's rows, whose right side is the solution of the iteration that it stands in.

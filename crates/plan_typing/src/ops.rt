@@ -52,7 +52,7 @@ pub fn type_op(
             ..
         } => {
             let sides = two_sides(inputs, left_key.as_slice(), right_key.as_slice());
-            type_join(alloc, &sides, columns.as_slice(), left_default, right_default)
+            type_join(alloc, &sides, columns, left_default, right_default)
         }
         Op::Cogroup {
             left_key,

@@ -1,4 +1,4 @@
-use Rattle.std.proofs.Common.{◌≡◌, List, ℕ, sym, ap, ◌∙◌}
+use Rattle.std.proofs.Common.{List, ℕ, sym, ap, ◌∙◌}
 use Rattle.flow_types.specs.Types.{Fields}
 use Rattle.flow_model.specs.Schemas.{input_at}
 use Rattle.plan_typing.specs.Typing.{typed_op}
@@ -24,9 +24,8 @@ returns-in-Group c =
 
 pub returns-in-Join : goal.returns-in-Join
 returns-in-Join c =
-    on_ok c.type_join.result (typed_join (sides_of c.two_sides-sides.result) c.as_slice-in-Join-3.result.now c.in-Join.left_default c.in-Join.right_default) (typed_op c.args.inputs.now c.args.home_key.now c.args.op.now) c.type_join.ensures
-    (ap (λ (s : SideTypes). typed_join s c.as_slice-in-Join-3.result.now c.in-Join.left_default c.in-Join.right_default) (c.two_sides-sides.ensures ∙ ap (λ (k : List ℕ). side_types c.args.inputs.now k c.as_slice-in-Join-2.result.now) c.as_slice-in-Join.ensures ∙ ap (side_types c.args.inputs.now c.in-Join.left_key) c.as_slice-in-Join-2.ensures)
-    ∙ ap (λ es. typed_join (side_types c.args.inputs.now c.in-Join.left_key c.in-Join.right_key) es c.in-Join.left_default c.in-Join.right_default) c.as_slice-in-Join-3.ensures
+    on_ok c.type_join.result (typed_join (sides_of c.two_sides-sides.result) c.in-Join.columns c.in-Join.left_default c.in-Join.right_default) (typed_op c.args.inputs.now c.args.home_key.now c.args.op.now) c.type_join.ensures
+    (ap (λ (s : SideTypes). typed_join s c.in-Join.columns c.in-Join.left_default c.in-Join.right_default) (c.two_sides-sides.ensures ∙ ap (λ (k : List ℕ). side_types c.args.inputs.now k c.as_slice-in-Join-2.result.now) c.as_slice-in-Join.ensures ∙ ap (side_types c.args.inputs.now c.in-Join.left_key) c.as_slice-in-Join-2.ensures)
     ∙ ap (typed_op c.args.inputs.now c.args.home_key.now) (sym c.in-Join.is))
 
 pub returns-in-Cogroup : goal.returns-in-Cogroup
