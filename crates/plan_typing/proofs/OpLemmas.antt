@@ -1,5 +1,5 @@
 -- The schema of an op, by what is told of its columns.
-use Rattle.std.proofs.Common.{◌≡◌, ℕ, zero, suc, ◌≤◌, Bool, true, false, ◌&&◌, nat_le, List, [], ◌∷◌, length, map, Option, Some, None, Result, Err, refl, sym, ap, ◌∙◌, subst, arith}
+use Rattle.std.proofs.Common.{◌≡◌, ℕ, zero, suc, ◌+◌, ◌≤◌, Bool, true, false, ◌&&◌, nat_le, List, [], ◌∷◌, length, map, Option, Some, None, Result, Err, refl, sym, ap, ◌∙◌, subst, arith}
 use Rattle.std.specs.Prelude.{nat_lt, is_some, option_map, slice_get, IfOk}
 use Rattle.std.specs.List.{list_all}
 use Rattle.std.proofs.lemmas.Bool.Decides.{nat_tests}
@@ -14,9 +14,9 @@ use Rattle.flow_model.specs.declared.plan_code.PlanCode.{PlanCode}
 use Rattle.flow_model.specs.declared.plan_code.PlanCode.TheVariants as code
 use Rattle.flow_types.specs.declared.order_item.OrderItem.{OrderItem}
 use Rattle.flow_model.specs.Schemas.{only_if, first_and_others, types_of, fields_at, are_narrow, columns_type, has_order, ranked, default_fits}
-use Rattle.plan_typing.specs.Typing.{is_key_within, in_width, in_types, in_fields, have_types}
+use Rattle.plan_typing.specs.Typing.{is_key_within, are_as_long, are_within, in_width, in_types, in_fields, have_types}
 use Rattle.plan_typing.specs.Told.{capped, told_columns, schema_of_columns}
-use Rattle.plan_typing.specs.Sides.{SideTypes, keys_of, fields_of, have_pair_types, pairs_type, has_join_fields, typed_join}
+use Rattle.plan_typing.specs.Sides.{SideTypes, keys_of, fields_of, have_pair_types, pairs_type, typed_join}
 use Rattle.plan_typing.proofs.ToldLemmas.{bound_told}
 
 -- Types that are told are a schema where the types themselves are, and are then these.
@@ -121,6 +121,12 @@ pairs_unfit s columns = go (is_some (keys_of s) && have_types (fields_of s) colu
     go : (b : Bool) → in_types (b && false) (pairs_type s columns false) ≡ Err code.BadTypes
     go true = refl
     go false = refl
+
+-- the field numbers of a join are right
+abbrev pub has_join_fields : SideTypes → List Expr → Bool
+has_join_fields s columns =
+    is_key_within (length s.left) s.left_key && is_key_within (length s.right) s.right_key
+    && are_as_long s.left_key s.right_key && are_within (length s.left + length s.right) columns
 
 -- a join's schema is that of columns over its sides
 pub join_schema : (s : SideTypes) (columns : List Expr) (left_default right_default : Option Tuple) → has_join_fields s columns ≡ true → in_types (have_pair_types s columns (default_fits s.left left_default && default_fits s.right right_default)) (pairs_type s columns (default_fits s.left left_default && default_fits s.right right_default)) ≡ typed_join s columns left_default right_default

@@ -1,14 +1,15 @@
-use Rattle.std.specs.Prelude.{ℕ, ◌+◌, Bool, ◌&&◌, List, ◌++◌, length, Option, None, is_some, Result}
-use Rattle.std.specs.List.{list_all}
+use Rattle.std.specs.Prelude.{ℕ, Bool, ◌&&◌, List, [], ◌∷◌, ◌++◌, Option, is_some, Result}
 use Rattle.flow_types.specs.declared.agg.Agg.{Agg}
 use Rattle.flow_types.specs.declared.expr.Expr.{Expr}
 use Rattle.flow_types.specs.Tuples.{Tuple}
 use Rattle.flow_types.specs.Types.{Fields}
 use Rattle.flow_types.specs.ExprTypes.{◌>>=◌}
+use Rattle.flow_model.specs.declared.op.JoinKind.TheVariants as kind
+use Rattle.flow_model.specs.declared.op.Op.TheVariants as op
 use Rattle.flow_model.specs.declared.plan_code.PlanCode.{PlanCode}
-use Rattle.flow_model.specs.Schemas.{only_if, is_fold, keys_type, columns_type, default_fits, join_type, cogroup_type, input_at}
+use Rattle.flow_model.specs.Schemas.{only_if, keys_type, columns_type, input_at}
 use Rattle.plan_typing.specs.declared.keys.Sides.{Sides}
-use Rattle.plan_typing.specs.Typing.{is_key_within, are_as_long, are_within, is_fold_within, have_types, in_fields}
+use Rattle.plan_typing.specs.Typing.{have_types, typed_op}
 
 -- The two sides of an op whose rows meet by their keys.
 pub record SideTypes : Type 0 where
@@ -42,42 +43,17 @@ have_pair_types s columns fit = is_some (keys_of s) && have_types (fields_of s) 
 abbrev pub pairs_type : SideTypes → List Expr → Bool → Option Fields
 pairs_type s columns fit = keys_of s >>= λ ks. columns_type (fields_of s) columns >>= only_if fit
 
--- the field numbers of a join are right
-abbrev pub has_join_fields : SideTypes → List Expr → Bool
-has_join_fields s columns =
-    is_key_within (length s.left) s.left_key && is_key_within (length s.right) s.right_key
-    && are_as_long s.left_key s.right_key && are_within (length s.left + length s.right) columns
+-- `typed_op` of each op that takes two inputs, over its sides. What an op has beside the arguments here is nothing to its
+-- types.
 
--- the schema of a join's rows, or the first code that refuses it
 abbrev pub typed_join : SideTypes → List Expr → Option Tuple → Option Tuple → Result Fields PlanCode
 typed_join s columns left_default right_default =
-    in_fields (has_join_fields s columns)
-    (is_some (keys_of s) && have_types (fields_of s) columns
-    && default_fits s.left left_default && default_fits s.right right_default)
-    (join_type s.left s.right s.left_key s.right_key columns left_default right_default)
+    typed_op (s.left ∷ s.right ∷ []) [] (op.Join 0 1 s.left_key s.right_key columns kind.Inner left_default right_default)
 
--- the field numbers of a probe are right; those of its right side are its iteration's
-abbrev pub has_probe_fields : SideTypes → List Expr → Bool
-has_probe_fields s columns =
-    is_key_within (length s.left) s.left_key && are_as_long s.left_key s.right_key
-    && are_within (length s.left + length s.right) columns
-
--- the schema of a probe's rows, or the first code that refuses it
+-- a probe's right side is the solution, whose key is the delta iteration's
 abbrev pub typed_probe : SideTypes → List Expr → Result Fields PlanCode
-typed_probe s columns =
-    in_fields (has_probe_fields s columns) (is_some (keys_of s) && have_types (fields_of s) columns)
-    (join_type s.left s.right s.left_key s.right_key columns None None)
+typed_probe s columns = typed_op (s.left ∷ s.right ∷ []) s.right_key (op.Probe 0 s.left_key columns)
 
--- the field numbers of a cogroup are right
-abbrev pub has_cogroup_fields : SideTypes → List Agg → List Agg → Bool
-has_cogroup_fields s left_aggs right_aggs =
-    is_key_within (length s.left) s.left_key && is_key_within (length s.right) s.right_key
-    && are_as_long s.left_key s.right_key
-    && list_all (is_fold_within (length s.left)) left_aggs && list_all (is_fold_within (length s.right)) right_aggs
-
--- the schema of a cogroup's rows, or the first code that refuses it
 abbrev pub typed_cogroup : SideTypes → List Agg → List Agg → Result Fields PlanCode
 typed_cogroup s left_aggs right_aggs =
-    in_fields (has_cogroup_fields s left_aggs right_aggs)
-    (is_some (keys_of s) && list_all (is_fold s.left) left_aggs && list_all (is_fold s.right) right_aggs)
-    (cogroup_type s.left s.right s.left_key s.right_key left_aggs right_aggs)
+    typed_op (s.left ∷ s.right ∷ []) [] (op.Cogroup 0 1 s.left_key s.right_key left_aggs right_aggs)

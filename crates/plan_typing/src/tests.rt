@@ -17,6 +17,7 @@ use std::alloc::Global;
 // Each maker answers `None` where memory is wanting or a piece hasn't its form.
 
 const LONG: FieldType = FieldType::Long;
+
 const BOOL: FieldType = FieldType::Bool;
 
 /// The left input of most cases.
@@ -203,13 +204,7 @@ fn default_row(alloc: Global, has_default: bool) -> Option<Option<Row>> {
     }
 }
 
-fn join(
-    alloc: Global,
-    keys: (&[u16], &[u16]),
-    text: &str,
-    left: bool,
-    right: bool,
-) -> Option<Op> {
+fn join(alloc: Global, keys: (&[u16], &[u16]), text: &str, left: bool, right: bool) -> Option<Op> {
     let left_key = key(alloc, keys.0)?;
     let right_key = key(alloc, keys.1)?;
     let columns = columns(alloc, text)?;
@@ -353,7 +348,9 @@ fn inputs(alloc: Global, kind: Kind) -> Option<Vec<Schema>> {
         Kind::WideMap => inputs.push(schema(alloc, &WIDE)?).ok()?,
         Kind::UnionOfOne => {
             inputs.push(schema(alloc, &RIGHT)?).ok()?;
-            inputs.push(schema(alloc, &[LONG, FieldType::Str(90)])?).ok()?;
+            inputs
+                .push(schema(alloc, &[LONG, FieldType::Str(90)])?)
+                .ok()?;
             inputs.push(schema(alloc, &RIGHT)?).ok()?;
         }
         _ => {
@@ -378,7 +375,9 @@ fn is_typed(alloc: Global, case: &Case) -> Option<bool> {
 }
 
 const FIELD: Result<&[FieldType], PlanCode> = Err(PlanCode::BadField);
+
 const TYPES: Result<&[FieldType], PlanCode> = Err(PlanCode::BadTypes);
+
 const TOO_WIDE: Result<&[FieldType], PlanCode> = Err(PlanCode::BadWidth);
 
 const CASES: [Case; 70] = [
@@ -396,7 +395,13 @@ const CASES: [Case; 70] = [
             FieldType::Str(3),
         ]),
     ),
-    (Kind::Map, &[], &[], "00+00=1!2#", Ok(&[LONG, BOOL, BOOL, LONG])),
+    (
+        Kind::Map,
+        &[],
+        &[],
+        "00+00=1!2#",
+        Ok(&[LONG, BOOL, BOOL, LONG]),
+    ),
     (Kind::Map, &[], &[], "123?", Ok(&[FieldType::Str(9_000)])),
     (Kind::Map, &[], &[], "01=4", FIELD),
     (Kind::Map, &[], &[], "01+", TYPES),
@@ -495,7 +500,13 @@ const CASES: [Case; 70] = [
     (Kind::Bulk, &[], &[], "", Ok(&LEFT)),
     (Kind::Delta, &[2], &[1], "", Ok(&LEFT)),
     (Kind::Delta, &[4], &[1], "", FIELD),
-    (Kind::Probe, &[0], &[0], "05", Ok(&[LONG, FieldType::Str(50)])),
+    (
+        Kind::Probe,
+        &[0],
+        &[0],
+        "05",
+        Ok(&[LONG, FieldType::Str(50)]),
+    ),
     (Kind::Probe, &[0], &[], "0", FIELD),
     (Kind::Probe, &[4], &[0], "0", FIELD),
     (Kind::Probe, &[0], &[0], "6", FIELD),
