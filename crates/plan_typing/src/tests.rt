@@ -361,16 +361,23 @@ fn inputs(alloc: Global, kind: Kind) -> Option<Vec<Schema>> {
     Some(inputs)
 }
 
-/// Whether an op's schema, or the code that refuses it, is what a case says.
+/// Whether an op's schema, or the code that refuses it, is as wanted.
+fn is_wanted(found: &Result<Schema, PlanCode>, want: Result<&[FieldType], PlanCode>) -> bool {
+    match (found, want) {
+        (Ok(schema), Ok(types)) => schema.fields() == types,
+        (Err(code), Err(wanted)) => *code == wanted,
+        _ => false,
+    }
+}
+
+/// Whether a case is typed as it says.
 fn is_typed(alloc: Global, case: &Case) -> Option<bool> {
     let (kind, left_key, right_key, text, want) = *case;
     let inputs = inputs(alloc, kind)?;
     let op = op(alloc, kind, (left_key, right_key), text)?;
-    let found = type_op(alloc, &op, inputs.as_slice(), right_key).ok()?;
-    match (&found, want) {
-        (Ok(schema), Ok(types)) => Some(schema.fields() == types),
-        (Err(code), Err(wanted)) => Some(*code == wanted),
-        _ => Some(false),
+    match type_op(alloc, &op, inputs.as_slice(), right_key) {
+        Ok(found) => Some(is_wanted(&found, want)),
+        Err(_) => None,
     }
 }
 
