@@ -1,4 +1,4 @@
-use Rattle.std.specs.Prelude.{ℕ, Bool, false, not, ◌&&◌, ◌==◌, nat_le, nat_lt, if◌then◌else◌, List, [], ◌∷◌, length, drop, slice_index_or, codes, Option, Some, None, option_map}
+use Rattle.std.specs.Prelude.{ℕ, ◌≤◌, Bool, false, not, ◌&&◌, ◌==◌, nat_le, nat_lt, if◌then◌else◌, List, [], ◌∷◌, length, drop, slice_index_or, codes, Option, Some, None, option_map}
 use Rattle.std.specs.List.{before_first, after_first, position_or_len}
 use Rattle.std.specs.Str.{bytes_eq}
 use Rattle.flow_types.specs.Decimal.{number_up_to}
@@ -123,3 +123,16 @@ plain_asked words = if is_word (word_at words 0) then run_with (word_at words 0)
 abbrev pub asked_of : Program → List (List ℕ) → Option Asked
 asked_of program.FlinkRun words = flink_asked words
 asked_of program.PlainRun words = plain_asked words
+
+-- The numbers of a budget are in their limits.
+pub record IsBudgetWithin (b : Budget) : Type 0 where
+  pub some_workers : 1 ≤ b.workers
+  pub few_workers : b.workers ≤ worker_limit
+  pub few_segments : b.segments ≤ segment_limit
+
+-- The numbers of a task are in their limits.
+abbrev pub IsWithin : Task → Type 0
+IsWithin Task.check = Unit {0}
+IsWithin (Task.need workers) = (1 ≤ workers) × (workers ≤ worker_limit)
+IsWithin (Task.run None bindings) = Unit {0}
+IsWithin (Task.run (Some budget) bindings) = IsBudgetWithin budget
