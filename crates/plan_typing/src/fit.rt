@@ -16,7 +16,7 @@ fn takes(into: FieldType, from: FieldType) -> bool
 }
 
 /// Whether a schema's rows fit another's: the same kinds in the same places, and no text's bound
-/// exceeds the other's. The cost is proportional to the fields.
+/// exceeds the other's. The rule is this project's own. The cost is proportional to the fields.
 pub fn fits_schema(from: &[FieldType], into: &[FieldType]) -> bool
     ensures { result ≡ fits_schema from.now into.now }
 {

@@ -2,7 +2,8 @@
 //! stands on the plan's types and definitions.
 //!
 //! Its one promise: `type_op` gives that schema, or exactly the first of the codes `BadField`,
-//! `BadTypes` and `BadWidth` that refuses the op.
+//! `BadTypes` and `BadWidth` that refuses the op. Beside it, `fits_schema` says whether the rows of one
+//! schema fit another.
 #![tactic(auto)]
 
 mod columns;
