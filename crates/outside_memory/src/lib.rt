@@ -11,8 +11,11 @@ pub mod file_name;
 mod files;
 pub mod mem_shelf;
 pub mod mem_sink;
+pub mod mem_spill;
 pub mod no_gate;
 mod places;
+mod spill_blocks;
+pub mod spill_calls;
 #[cfg(test)]
 mod tests;
 pub mod zero_spill;
