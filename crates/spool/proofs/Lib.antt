@@ -1,0 +1,4 @@
+pub mod ChainLemmas
+pub mod FreeLemmas
+pub mod PushLemmas
+pub mod ReadLemmas

@@ -1,0 +1,4 @@
+pub mod Headers
+pub mod Runs
+pub mod Reading
+pub mod Changes
