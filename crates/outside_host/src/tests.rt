@@ -1,4 +1,4 @@
-ghost use Rattle.std.specs.Prelude.{◌≡◌, None};
+ghost use Rattle.std.specs.Prelude.{◌≡◌};
 
 use crate::file_shelf::FileShelf;
 use crate::file_spill::FileSpill;
@@ -10,6 +10,8 @@ use flow_outside::sink::Sink;
 use flow_outside::spill::Spill;
 use flow_outside::write_all::write_all;
 use std::fs;
+use std::fs::Files;
+use std::os::unix::fs::FileExt;
 use std::test::Fail;
 
 #[test]
@@ -49,9 +51,9 @@ fn page_of(block: u64) -> [u8; 8] {
 }
 
 /// Takes so many blocks and puts the page of each. Whether all was done.
-fn fill<D: Spill>(disk: &mut D, count: u64) -> bool
-    requires { D.told disk.old ≡ None }
-    ensures { D.told disk.new ≡ None }
+fn fill<R: Files>(disk: &mut FileSpill<'_, R>, count: u64) -> bool
+where
+    R::File: FileExt,
 {
     for _ in 0..count {
         match disk.fresh() {
@@ -67,9 +69,9 @@ fn fill<D: Spill>(disk: &mut D, count: u64) -> bool
 }
 
 /// Whether the first so many blocks hold their pages.
-fn holds<D: Spill>(disk: &mut D, count: u64) -> bool
-    requires { D.told disk.old ≡ None }
-    ensures { D.told disk.new ≡ None }
+fn holds<R: Files>(disk: &mut FileSpill<'_, R>, count: u64) -> bool
+where
+    R::File: FileExt,
 {
     for block in 0..count {
         let mut page = [0; 8];

@@ -1,0 +1,113 @@
+ghost use Rattle.std.specs.Prelude.{◌≡◌, ℕ, ◌+◌, ◌<◌, ◌≤◌, Option, IfOk, OnOk, length};
+ghost use Rattle.flow_outside.specs.Blocks.{Blocks};
+ghost use Rattle.flow_outside.specs.Told.{IfTold};
+ghost use Rattle.paged_view.specs.Pages.{body, used};
+ghost use Rattle.spool.specs.Headers.{IsSameSegment};
+ghost use Rattle.spool.specs.Reading.{IsReadable};
+ghost use Rattle.spool.specs.Runs.{IsRun, IsWritten};
+
+use flow_outside::failure::{Failed, StreamFault};
+use flow_outside::spill::Spill;
+use segment_core::{Pool, Segment};
+use spool::discard::discard;
+use spool::reader::RunReader;
+use spool::run::Run;
+use spool::writer::RunWriter;
+use std::alloc::Global;
+use std::process::Abort;
+
+/// Says in a page that one byte is used, which is this one.
+fn mark(page: &mut Segment, byte: u8)
+    ensures used { used page.new ≡ 1 }
+    ensures within { used page.new ≤ length (body page.new) }
+    ensures same { IsSameSegment page.old page.new }
+{
+    let _len = page.bytes().len();
+    write_mark(page.bytes_mut(), byte);
+}
+
+/// Writes the number of used bytes and the byte behind the header.
+fn write_mark(bytes: &mut [u8], byte: u8)
+    requires { 17 ≤ length bytes.old }
+{
+    bytes[..4].copy_from_slice(&1_u32.to_be_bytes());
+    bytes[16] = byte;
+}
+
+/// Writes a run of so many pages. Page i has the byte i, from 0.
+fn write_run<D: Spill>(disk: &mut D, page: &mut Segment, count: u8) -> Result<Run, Failed>
+    ensures same { IsSameSegment page.old page.new }
+    ensures run { IfOk result (λ run. IfTold (D.told disk.new) (λ blocks. IsRun blocks (length page.old.bytes) run)) }
+{
+    let mut writer = RunWriter::start(disk)?;
+    for number in 0..count {
+        mark(page, number);
+        writer.push(disk, page)?;
+    }
+    Ok(writer.close())
+}
+
+/// Reads a run. How many of its pages have the byte of their number.
+fn read_run<D: Spill>(disk: &mut D, page: &mut Segment, run: &Run) -> Result<u64, StreamFault>
+    requires { IfTold (D.told disk.old) (λ blocks. IsRun blocks (length page.old.bytes) run.now) }
+    ensures tells { D.told disk.new ≡ D.told disk.old }
+    ensures same { IsSameSegment page.old page.new }
+{
+    let mut reader = RunReader::start(run);
+    let mut count = 0;
+    'pages: loop {
+        match reader.next(disk, page) {
+            Ok(true) => count = count_mark(page, count),
+            Ok(false) => return Ok(count),
+            Err(fault) => return Err(fault),
+        }
+    }
+}
+
+/// One more where the page has the byte of this number.
+fn count_mark(page: &Segment, count: u64) -> u64 {
+    if u64::from(page.bytes()[16]) == count {
+        return count.saturating_add(1);
+    }
+    count
+}
+
+/// Writes a run of so many pages, reads it twice, and ends it. How many pages came back both times
+/// together.
+fn there_and_back<D: Spill>(disk: &mut D, page: &mut Segment, count: u8) -> Result<u64, StreamFault>
+    ensures { IsSameSegment page.old page.new }
+{
+    let run = match write_run(disk, page, count) {
+        Ok(run) => run,
+        Err(_) => return Err(StreamFault::Spill),
+    };
+    let first = match read_run(disk, page, &run) {
+        Ok(first) => first,
+        Err(fault) => return Err(fault),
+    };
+    let second = match read_run(disk, page, &run) {
+        Ok(second) => second,
+        Err(fault) => return Err(fault),
+    };
+    match discard(run, disk, page) {
+        Ok(()) => Ok(first.saturating_add(second)),
+        Err(fault) => Err(fault),
+    }
+}
+
+/// The same with a segment of its own, which goes home.
+pub(crate) fn run_on<D: Spill>(
+    rt: &impl Abort,
+    alloc: Global,
+    disk: &mut D,
+    count: u8,
+) -> Result<u64, StreamFault> {
+    let mut pool = Pool::open(alloc, 1, 4_096).expect(rt, "no memory");
+    let mut purse = pool.lease(1).expect(rt, "no memory");
+    let mut page = purse.take().expect(rt, "no segment");
+    let answer = there_and_back(disk, &mut page, count);
+    purse.put(page);
+    pool.restore(purse);
+    pool.close();
+    answer
+}
