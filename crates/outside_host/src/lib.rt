@@ -1,5 +1,5 @@
-//! The outside that the machine has: real files, and the two standard outputs. It stands on
-//! `flow_outside`.
+//! The outside that the machine has: real files, a disk that is a file, and the two standard outputs. It
+//! stands on `flow_outside`.
 //!
 //! Its one promise: each call fails only where the count of faults rose. It tells nothing of what a
 //! file or a terminal holds.

@@ -1,12 +1,13 @@
 -- What a push makes of a writer's run.
 use Rattle.std.proofs.Common.{◌≡◌, ◌≢◌, inl, inr, ℕ, suc, Result, Ok, Err, OnErr, ◌+◌, List, length, Option, Some, None, sym, ap, ◌∙◌, subst, add-one, zero-add}
 use Rattle.flow_outside.specs.Blocks.{Blocks, BothTold, IsLive}
+use Rattle.flow_outside.specs.Told.{IfTold}
 use Rattle.spool.specs.Headers.{next_of, IsSound}
 use Rattle.spool.specs.Runs.{pages_at, end_at, HasBlock, Stands, IsRun, IsWritten}
 use Rattle.spool.specs.Changes.{IsAppended, IsKept, IsPushed, LeavesOpen}
 use Rattle.spool.specs.declared.run.Run.{Run}
 use Rattle.spool.specs.declared.writer.RunWriter.{RunWriter}
-use Rattle.spool.proofs.ChainLemmas.{Longer, SameChain, chain_more, chain_open, end_is_block, same_chain, stands_kept}
+use Rattle.spool.proofs.ChainLemmas.{Longer, SameChain, chain_more, chain_open, chain_lives, end_is_block, same_chain, stands_kept}
 
 -- The page that was put behind a writer's run is one of it.
 pub pushed : (m n : Blocks) (size : ℕ) (before after : RunWriter) (page : List ℕ)
@@ -113,11 +114,32 @@ writer_stays m n size writer same written =
       blocks = λ k. (chain.had k, chain.has k);
     }
 
--- The run that a writer is closed as stands.
-pub closed : (m : Blocks) (size : ℕ) (writer : RunWriter) → IsWritten m size writer → IsRun m size (record { first = writer.first; pages = writer.pages })
-closed m size writer written = written.stands
-
 -- What follows an error, of an answer that is one.
 pub on_err : {T F : Type 0} (answer : Result T F) (P : Type 0) → P → OnErr answer P
 on_err (Ok value) P p = tt
 on_err (Err fault) P p = p
+
+-- The block behind a writer's run is live, so the next page may be put there.
+pub end_lives : (m : Blocks) (size : ℕ) (writer : RunWriter) → IsWritten m size writer → IsLive m writer.end
+end_lives m size writer written =
+    subst (IsLive m) written.behind
+    (chain_lives m size 0 writer.first writer.pages written.stands (end_at m writer.first writer.pages) (end_is_block m writer.first writer.pages))
+
+pub end_lives_told : (t : Option Blocks) (size : ℕ) (writer : RunWriter) → IfTold t (λ m. IsWritten m size writer) → IfTold t (λ m. IsLive m writer.end)
+end_lives_told None size writer written = tt
+end_lives_told (Some m) size writer written = end_lives m size writer written
+
+-- After a push a writer's run stands.
+pub written_told : (t u : Option Blocks) (size : ℕ) (before after : RunWriter) (page : List ℕ)
+    → IfTold t (λ m. IsWritten m size before)
+    → BothTold t u (λ old new. IsWritten old size before → IsPushed size before after page old new)
+    → IfTold u (λ m. IsWritten m size after)
+written_told None None size before after page written more = tt
+written_told None (Some n) size before after page written more = absurd more
+written_told (Some m) None size before after page written more = tt
+written_told (Some m) (Some n) size before after page written more = (more written).written
+
+-- The run that a writer is closed as stands.
+pub closed_told : (t : Option Blocks) (size : ℕ) (writer : RunWriter) → IfTold t (λ m. IsWritten m size writer) → IfTold t (λ m. IsRun m size (record { first = writer.first; pages = writer.pages }))
+closed_told None size writer written = tt
+closed_told (Some m) size writer written = written.stands

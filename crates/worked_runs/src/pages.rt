@@ -1,13 +1,13 @@
-ghost use Rattle.std.specs.Prelude.{◌≡◌, ℕ, ◌+◌, ◌<◌, ◌≤◌, Option, IfOk, OnOk, length};
-ghost use Rattle.flow_outside.specs.Blocks.{Blocks};
+ghost use Rattle.std.specs.Prelude.{◌≡◌, ◌≤◌, ◌++◌, IfOk, drop, length};
+ghost use Rattle.std.specs.Int.{to_be_bytes, w32};
 ghost use Rattle.flow_outside.specs.Told.{IfTold};
-ghost use Rattle.paged_view.specs.Pages.{body, used};
+ghost use Rattle.paged_view.specs.Pages.{used};
 ghost use Rattle.spool.specs.Headers.{IsSameSegment};
-ghost use Rattle.spool.specs.Reading.{IsReadable};
-ghost use Rattle.spool.specs.Runs.{IsRun, IsWritten};
+ghost use Rattle.spool.specs.Runs.{IsRun};
 
 use flow_outside::failure::{Failed, StreamFault};
 use flow_outside::spill::Spill;
+use paged_view::page::body_of;
 use segment_core::{Pool, Segment};
 use spool::discard::discard;
 use spool::reader::RunReader;
@@ -19,19 +19,26 @@ use std::process::Abort;
 /// Says in a page that one byte is used, which is this one.
 fn mark(page: &mut Segment, byte: u8)
     ensures used { used page.new ≡ 1 }
-    ensures within { used page.new ≤ length (body page.new) }
     ensures same { IsSameSegment page.old page.new }
 {
     let _len = page.bytes().len();
-    write_mark(page.bytes_mut(), byte);
+    write_byte(page.bytes_mut(), byte);
+    write_used(page.bytes_mut());
 }
 
-/// Writes the number of used bytes and the byte behind the header.
-fn write_mark(bytes: &mut [u8], byte: u8)
+/// Writes the byte behind the header.
+fn write_byte(bytes: &mut [u8], byte: u8)
     requires { 17 ≤ length bytes.old }
 {
-    bytes[..4].copy_from_slice(&1_u32.to_be_bytes());
     bytes[16] = byte;
+}
+
+/// Writes that one byte is used.
+fn write_used(bytes: &mut [u8])
+    requires { 17 ≤ length bytes.old }
+    ensures { bytes.new ≡ to_be_bytes w32 1 ++ drop 4 bytes.old }
+{
+    bytes[..4].copy_from_slice(&1_u32.to_be_bytes());
 }
 
 /// Writes a run of so many pages. Page i has the byte i, from 0.
@@ -42,6 +49,7 @@ fn write_run<D: Spill>(disk: &mut D, page: &mut Segment, count: u8) -> Result<Ru
     let mut writer = RunWriter::start(disk)?;
     for number in 0..count {
         mark(page, number);
+        let _body = body_of(page);
         writer.push(disk, page)?;
     }
     Ok(writer.close())
