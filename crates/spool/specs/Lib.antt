@@ -2,3 +2,4 @@ pub mod Headers
 pub mod Runs
 pub mod Reading
 pub mod Changes
+pub mod Ios

@@ -1,6 +1,6 @@
 ghost use Rattle.std.specs.Prelude.{◌≡◌, ◌↔◌, ℕ, ◌+◌, ◌<◌, ◌≤◌, IsTrue, length};
 ghost use Rattle.paged_view.specs.Pages.{body, part, used};
-ghost use Rattle.spool.specs.Headers.{IsSound, IsSameSegment, as_page, header_number as spec_number, next_of, number_of, stamped, with_header};
+ghost use Rattle.spool.specs.Headers.{IsSound, IsSameSegment, as_page, header_number, next_of, number_of, stamped, with_header};
 
 use paged_view::page::HEADER_SIZE;
 use segment_core::Segment;
@@ -15,12 +15,12 @@ pub(crate) fn is_sound(page: &[u8], number: u64) -> bool
 {
     let used = used_in(page) as usize;
     let body = body_len(page);
-    used > 0 && used <= body && number_in(page) == header_number(number)
+    used > 0 && used <= body && number_in(page) == as_header_number(number)
 }
 
 /// The number that stands in the header of this page of a run.
-fn header_number(number: u64) -> u32
-    ensures { result ≡ spec_number number }
+fn as_header_number(number: u64) -> u32
+    ensures { result ≡ header_number number }
 {
     (number % NUMBERS) as u32
 }
@@ -68,7 +68,7 @@ pub(crate) fn stamp(page: &mut Segment, number: u64, next: u64)
     ensures sound { 0 < used page.old → used page.old ≤ length (body page.old) → IsSound number page.new.bytes }
 {
     let _len = page.bytes().len();
-    write_header(page.bytes_mut(), header_number(number), next);
+    write_header(page.bytes_mut(), as_header_number(number), next);
 }
 
 /// Writes both over bytes 4 to 15.

@@ -39,6 +39,7 @@ impl RunWriter {
             pages: 0,
         })
     }
+
     /// Puts a page behind those that were pushed, with its number and the block of the page behind it in
     /// its header. It takes a block for that page. It costs one write of the page.
     ///

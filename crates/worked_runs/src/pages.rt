@@ -1,8 +1,10 @@
-ghost use Rattle.std.specs.Prelude.{◌≡◌, ◌≤◌, ◌++◌, IfOk, drop, length};
+ghost use Rattle.std.specs.Prelude.{◌≡◌, ◌≤◌, ◌++◌, ℕ, IfOk, drop, length};
 ghost use Rattle.std.specs.Int.{to_be_bytes, w32};
 ghost use Rattle.flow_outside.specs.Told.{IfTold};
 ghost use Rattle.paged_view.specs.Pages.{used};
+ghost use Rattle.segment_core.specs.Segments.{weigh};
 ghost use Rattle.spool.specs.Headers.{IsSameSegment};
+ghost use Rattle.spool.specs.Ios.{HasSameParts};
 ghost use Rattle.spool.specs.Runs.{IsRun};
 
 use flow_outside::failure::{Failed, StreamFault};
@@ -10,6 +12,7 @@ use flow_outside::spill::Spill;
 use paged_view::page::body_of;
 use segment_core::{Pool, Segment};
 use spool::discard::discard;
+use spool::io::Io;
 use spool::reader::RunReader;
 use spool::run::Run;
 use spool::writer::RunWriter;
@@ -103,7 +106,19 @@ fn there_and_back<D: Spill>(disk: &mut D, page: &mut Segment, count: u8) -> Resu
     }
 }
 
-/// The same with a segment of its own, which goes home.
+/// The same with the segment on top of a purse, which goes back.
+fn with_io<D: Spill>(rt: &impl Abort, io: &mut Io<'_, D>, count: u8) -> Result<u64, StreamFault>
+    ensures parts { HasSameParts io.old io.new }
+    ensures room { io.new.purse.now.room ≡ io.old.purse.now.room }
+    ensures segments { (h : ℕ → ℕ → ℕ) → weigh h io.new.purse.now.pages ≡ weigh h io.old.purse.now.pages }
+{
+    let mut page = io.purse.take().expect(rt, "no segment");
+    let answer = there_and_back(io.disk, &mut page, count);
+    io.purse.put(page);
+    answer
+}
+
+/// The same with a segment of a pool of its own, which goes home.
 pub(crate) fn run_on<D: Spill>(
     rt: &impl Abort,
     alloc: Global,
@@ -112,10 +127,13 @@ pub(crate) fn run_on<D: Spill>(
 ) -> Result<u64, StreamFault> {
     let mut pool = Pool::open(alloc, 1, 4_096).expect(rt, "no memory");
     let mut purse = pool.lease(1).expect(rt, "no memory");
-    let mut page = purse.take().expect(rt, "no segment");
-    let answer = there_and_back(disk, &mut page, count);
-    purse.put(page);
+    let mut io = Io {
+        purse: &mut purse,
+        disk,
+    };
+    let answer = with_io(rt, &mut io, count);
     pool.restore(purse);
+    assert_eq!(rt; pool.free(), pool.total());
     pool.close();
     answer
 }
