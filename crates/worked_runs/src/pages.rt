@@ -10,7 +10,7 @@ ghost use Rattle.spool.specs.Runs.{IsRun};
 use flow_outside::failure::{Failed, StreamFault};
 use flow_outside::spill::Spill;
 use paged_view::page::body_of;
-use segment_core::{Pool, Segment};
+use segment_core::{Pool, Purse, Segment};
 use spool::discard::discard;
 use spool::io::Io;
 use spool::reader::RunReader;
@@ -118,6 +118,19 @@ fn with_io<D: Spill>(rt: &impl Abort, io: &mut Io<'_, D>, count: u8) -> Result<u
     answer
 }
 
+/// The same with a purse and a disk, which come back.
+fn with_parts<D: Spill>(
+    rt: &impl Abort,
+    purse: &mut Purse,
+    disk: &mut D,
+    count: u8,
+) -> Result<u64, StreamFault>
+    ensures { (h : ℕ → ℕ → ℕ) → weigh h purse.new.pages ≡ weigh h purse.old.pages }
+{
+    let mut io = Io { purse, disk };
+    with_io(rt, &mut io, count)
+}
+
 /// The same with a segment of a pool of its own, which goes home.
 pub(crate) fn run_on<D: Spill>(
     rt: &impl Abort,
@@ -127,11 +140,7 @@ pub(crate) fn run_on<D: Spill>(
 ) -> Result<u64, StreamFault> {
     let mut pool = Pool::open(alloc, 1, 4_096).expect(rt, "no memory");
     let mut purse = pool.lease(1).expect(rt, "no memory");
-    let mut io = Io {
-        purse: &mut purse,
-        disk,
-    };
-    let answer = with_io(rt, &mut io, count);
+    let answer = with_parts(rt, &mut purse, disk, count);
     pool.restore(purse);
     assert_eq!(rt; pool.free(), pool.total());
     pool.close();

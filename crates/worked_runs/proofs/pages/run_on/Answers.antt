@@ -8,4 +8,4 @@ use Rattle.worked_runs.proofs.pages.run_on.Goals as goal
 pub restore-requires : goal.restore-requires
 restore-requires g c =
     let may = IfOk-at_ok (λ (p : Held). MayReturn c.lease.new.self p.pages) c.expect-purse.ensures c.lease.ensures.may_return in
-    MayReturn-weigh c.lease.new.self c.expect-purse.result.pages _ c.with_io.ensures.segments may
+    MayReturn-weigh c.lease.new.self c.expect-purse.result.pages c.with_parts-answer.new.purse.pages c.with_parts-answer.ensures may
