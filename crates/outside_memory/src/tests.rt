@@ -1,8 +1,6 @@
 use crate::file_name::FileName;
 use crate::mem_shelf::MemShelf;
 use crate::mem_sink::MemSink;
-use crate::mem_spill::MemSpill;
-use crate::spill_calls::SpillCall;
 use crate::zero_spill::ZeroSpill;
 use flow_outside::read_file::{FileFault, read_file};
 use flow_outside::shelf::Shelf;
@@ -83,28 +81,5 @@ fn keeps_nothing_of_a_page(rt: HostRuntime) -> Result<(), Fail> {
     disk.get(block, &mut page).expect(&rt, "it gives any page");
     assert_eq!(rt; page, [0, 0]);
     disk.free(block);
-    Ok(())
-}
-
-#[test]
-fn keeps_pages_in_memory(rt: HostRuntime) -> Result<(), Fail> {
-    let alloc = rt.alloc();
-    let failing = Vec::from_slice(alloc, &[(SpillCall::Fresh, 3), (SpillCall::Get, 2)])?;
-    let mut disk = MemSpill::new(alloc, failing);
-    let first = disk.fresh().expect(&rt, "a block");
-    let second = disk.fresh().expect(&rt, "another block");
-    assert!(rt; disk.fresh().is_err());
-    assert_eq!(rt; disk.faults(), 1);
-    disk.put(first, b"one").expect(&rt, "room for a page");
-    disk.put(second, b"two")
-        .expect(&rt, "room for another page");
-    let mut page = [0; 3];
-    disk.get(first, &mut page)
-        .expect(&rt, "the page of the first");
-    assert_eq!(rt; page.as_slice(), b"one".as_slice());
-    assert!(rt; disk.get(second, &mut page).is_err());
-    assert_eq!(rt; disk.faults(), 2);
-    disk.free(first);
-    assert_eq!(rt; disk.fresh(), Ok(first));
     Ok(())
 }
