@@ -1,23 +1,13 @@
 -- A run is freed block by block.
-use Rattle.std.proofs.Common.{◌≡◌, inl, inr, ℕ, zero, suc, ◌+◌, List, Option, Some, None, refl, sym, ap, ◌∙◌, subst, add-one}
+use Rattle.std.proofs.Common.{◌≡◌, inl, inr, ℕ, suc, ◌+◌, List, Option, Some, None, sym, ap, ◌∙◌, subst, add-one}
 use Rattle.std.proofs.lemmas.Bool.{cases_eq}
 use Rattle.flow_outside.specs.Blocks.{Blocks, Becomes, BothTold}
 use Rattle.flow_outside.specs.Told.{IfTold}
 use Rattle.spool.specs.Headers.{next_of}
-use Rattle.spool.specs.Runs.{bytes_of, next_in, HasBlock, StandsFirst, IsRun}
-use Rattle.spool.specs.Changes.{IsBeingFreed, LeavesOthers, IsFreed, IsPartlyFreed}
+use Rattle.spool.specs.Runs.{bytes_of, next_in, HasBlock, StandsFirst}
+use Rattle.spool.specs.Changes.{IsBeingFreed}
 use Rattle.spool.specs.declared.run.Run.{Run}
-use Rattle.spool.proofs.ChainLemmas.{SameChain, same_chain, stands_kept, first_is_block}
-
--- At first all of the run is left.
-pub begins : (run : Run) (size : ℕ) (m : Blocks) → IsRun m size run → IsBeingFreed run size 0 run.first run.pages m m
-begins run size m stands = record {
-  stands = stands;
-  among = λ k h. h;
-  freed = λ k h. inr h;
-  kept = λ k h. refl;
-  others = λ k h. refl;
-}
+use Rattle.spool.proofs.ChainLemmas.{SameChain, same_chain, stands_kept}
 
 -- The first block of what is left is freed, where the chain goes on.
 frees : (run : Run) (size number at rest : ℕ) (m n after : Blocks)
@@ -56,25 +46,6 @@ frees_first run size number second at next left rest page m n after f is numbere
     let g : IsBeingFreed run size (number + 1) (next_in n at) rest m after =
     frees run size number at rest m n after (subst (λ c. IsBeingFreed run size number at c m n) is f) change in
     subst (λ k. IsBeingFreed run size k next rest m after) (sym numbered) (subst (λ b. IsBeingFreed run size (number + 1) b rest m after) goes g)
-
--- The block behind the last page is freed.
-pub frees_last : (run : Run) (size number at left : ℕ) (m n after : Blocks)
-    → IsBeingFreed run size number at left m n
-    → left ≡ zero
-    → Becomes at None n after
-    → IsFreed run m after × LeavesOthers run m after
-frees_last run size number at left m n after f is change = (
-  (λ k h. elim (f.freed k h) [
-    | inl none ↦ elim (cases_eq k at) [ inl same ↦ ap after same ∙ change.is | inr apart ↦ change.others k apart ∙ none ]
-    | inr one ↦ ap after (subst (λ c. HasBlock n at c k) is one) ∙ change.is
-  ]),
-  (λ k h. change.others k (λ same. h (f.among k (subst (λ b. HasBlock n at left b) (sym same) (first_is_block n at left)))) ∙ f.others k h),
-)
-
--- Where it ends early, each block of the run is as it was or isn't live.
-pub partly : (run : Run) (size number at left : ℕ) (m n : Blocks) → IsBeingFreed run size number at left m n → IsPartlyFreed run m n
-partly run size number at left m n f =
-    λ k h. elim (f.freed k h) [ inl none ↦ inr none | inr one ↦ inl (f.kept k one) ]
 
 -- The same of a disk that may tell.
 pub frees_told : (t u v : Option Blocks) (run : Run) (size number second at next left rest : ℕ) (page : List ℕ)
