@@ -1,8 +1,8 @@
-//! The outside in memory: files, a sink, a disk that keeps nothing, and an open gate. They serve
+//! The outside in memory: files, a sink, a disk, a disk that keeps nothing, and an open gate. They serve
 //! tests and callers that have no files. It stands on `flow_outside`.
 //!
-//! Its one promise: the files and the sink tell their contents, and a call fails only where it was
-//! told to, where a name is unknown, or where room or memory is wanting.
+//! Its one promise: the files, the sink and the disk tell their contents, and a call fails only where it
+//! was told to, where a name is unknown, or where room, blocks or memory are wanting.
 #![tactic(auto)]
 
 mod calls;
@@ -11,8 +11,11 @@ pub mod file_name;
 mod files;
 pub mod mem_shelf;
 pub mod mem_sink;
+pub mod mem_spill;
 pub mod no_gate;
 mod places;
+mod spill_blocks;
+pub mod spill_calls;
 #[cfg(test)]
 mod tests;
 pub mod zero_spill;

@@ -1,0 +1,5 @@
+pub mod ChainLemmas
+pub mod FreeLemmas
+pub mod HeaderLemmas
+pub mod PushLemmas
+pub mod ReadLemmas

@@ -1,0 +1,5 @@
+pub mod Headers
+pub mod Runs
+pub mod Reading
+pub mod Changes
+pub mod Ios
