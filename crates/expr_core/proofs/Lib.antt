@@ -1,0 +1,4 @@
+pub mod Numbers
+pub mod FieldLemmas
+pub mod SeenLemmas
+pub mod TextLemmas
