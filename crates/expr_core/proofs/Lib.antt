@@ -2,3 +2,4 @@ pub mod Numbers
 pub mod FieldLemmas
 pub mod SeenLemmas
 pub mod TextLemmas
+pub mod ExprLemmas

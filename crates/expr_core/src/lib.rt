@@ -8,9 +8,9 @@
 
 mod arithmetic;
 //mod columns;
-//mod eval;
+mod eval;
 //pub mod evaluate;
-//mod operation;
+mod operation;
 //pub mod scratch;
 mod seen;
 mod source;

@@ -1,6 +1,7 @@
 ghost use Rattle.std.specs.Prelude.{◌≡◌, ℕ, List, ◌+◌, ◌≤◌, ◌<◌, ◌++◌, length, take, drop, IsTrue};
 ghost use Rattle.flow_types.specs.Limits.{record_limit};
 ghost use Rattle.flow_types.specs.Tuples.{Tuple, field};
+ghost use Rattle.flow_types.specs.Types.{Fields};
 ghost use Rattle.flow_types.specs.Records.{IsRecord, tuple_of};
 ghost use Rattle.expr_core.specs.Places.{value_in, is_inside, held, starts_at, value_at, least_len};
 
@@ -18,6 +19,9 @@ pub(crate) trait Source {
 
     /// All of its bytes.
     ghost seen: { Self → List ℕ };
+
+    /// The types of its fields.
+    ghost fields: { Self → Fields };
 
     /// The tuple.
     ghost tuple: { Self → Tuple };
@@ -47,6 +51,8 @@ impl<X: Span> Source for One<'_, X> {
 
     ghost seen = { λ s. X.seen s.row.now };
 
+    ghost fields = { λ s. s.schema.now };
+
     ghost tuple = { λ s. tuple_of s.schema.now (X.seen s.row.now) };
 
     fn field<'e>(&self, number: u16) -> Seen<'e> {
@@ -70,6 +76,8 @@ impl<A: Span, B: Span> Source for Two<'_, A, B> {
     ghost IsWhole = { λ s. IsRecord s.left_schema.now (A.seen s.left.now) × IsRecord s.right_schema.now (B.seen s.right.now) };
 
     ghost seen = { λ s. A.seen s.left.now ++ B.seen s.right.now };
+
+    ghost fields = { λ s. s.left_schema.now ++ s.right_schema.now };
 
     ghost tuple = { λ s. tuple_of s.left_schema.now (A.seen s.left.now) ++ tuple_of s.right_schema.now (B.seen s.right.now) };
 
