@@ -56,6 +56,12 @@ piece_at start from len n seen piece is inside low short =
     drop_twice : (m k : ℕ) (xs : List ℕ) → drop m (drop k xs) ≡ drop (m + k) xs
     drop_twice m k xs = drop-drop m k xs ∙ (let e : k + m ≡ m + k = omega arith in ap (λ (j : ℕ). drop j xs) e)
 
+-- where so many bytes were taken there are as many
+pub take_reaches : (k : ℕ) (xs : List ℕ) → k ≡ length (take k xs) → k ≤ length xs
+take_reaches zero xs e = omega arith
+take_reaches (suc k) [] e = cc
+take_reaches (suc k) (x ∷ xs) e = omega (arith, take_reaches k xs (let f : k ≡ length (take k xs) = omega (arith, e) in f))
+
 -- ---- comparisons
 
 -- fronts of one length decide, and where they are equal what is behind them does
@@ -83,12 +89,7 @@ module _ (a b left right : List ℕ) (at n : ℕ)
   other = ap (take n) right_is ∙ take_front n (length right) (drop at b) low
 
   long : (xs ys : List ℕ) → xs ≡ take (length xs) ys → n ≤ length xs → n ≤ length ys
-  long xs ys is h = omega (arith, h, reach (length xs) ys (ap length is))
-    where
-      reach : (k : ℕ) (zs : List ℕ) → k ≡ length (take k zs) → k ≤ length zs
-      reach zero zs e = omega arith
-      reach (suc k) [] e = cc
-      reach (suc k) (z ∷ zs) e = omega (arith, reach k zs (let f : k ≡ length (take k zs) = omega (arith, e) in f))
+  long xs ys is h = omega (arith, h, take_reaches (length xs) ys (ap length is))
 
   split : slice_cmp nat_cmp (drop at a) (drop at b)
       ≡ ordering_then (slice_cmp nat_cmp (take n left) (take n right)) (slice_cmp nat_cmp (drop n (drop at a)) (drop n (drop at b)))

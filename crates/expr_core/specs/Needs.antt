@@ -4,7 +4,7 @@ use Rattle.flow_types.specs.Limits.{text_limit}
 use Rattle.flow_types.specs.declared.field_type.FieldType.{FieldType}
 use Rattle.flow_types.specs.declared.expr.Expr.{Expr}
 use Rattle.flow_types.specs.Types.{Fields, width}
-use Rattle.flow_types.specs.ExprTypes.{type_of, typing_of, extent_of, is_limited}
+use Rattle.flow_types.specs.ExprTypes.{type_of, typing_of, extent_of, is_limited, list_limit}
 
 -- What expressions need is this project's own.
 
@@ -29,3 +29,12 @@ widest_of fields columns = sum_by (λ e. width_of_type (type_of fields e)) colum
 -- each column has a type, no part of it is wider than a text, and it is within an expression's limits
 abbrev pub are_typed : Fields → List Expr → Bool
 are_typed fields columns = list_all (λ e. is_typed fields e && is_limited e) columns
+
+-- the most bytes that are used while a column within an expression's limits is evaluated: two for a text's
+-- length, and those of its texts
+abbrev pub column_room : ℕ
+column_room = 2 + text_limit * list_limit
+
+-- the bytes of a scratch: 36 times 16,384. A new record and one column take 33 times as many at most.
+abbrev pub scratch_bytes : ℕ
+scratch_bytes = 589824

@@ -7,11 +7,11 @@
 #![tactic(auto)]
 
 mod arithmetic;
-//mod columns;
+mod columns;
 mod eval;
-//pub mod evaluate;
+pub mod evaluate;
 mod operation;
-//pub mod scratch;
+pub mod scratch;
 mod seen;
 mod source;
 mod text;

@@ -41,6 +41,7 @@ pub(crate) trait Source {
 }
 
 /// One record of a schema.
+#[derive(Drop)]
 pub(crate) struct One<'a, X> {
     pub row: &'a X,
     pub schema: &'a Schema,
@@ -65,6 +66,7 @@ impl<X: Span> Source for One<'_, X> {
 }
 
 /// Two records, each of its schema: the left one's fields are followed by the right one's.
+#[derive(Drop)]
 pub(crate) struct Two<'a, A, B> {
     pub left: &'a A,
     pub left_schema: &'a Schema,
