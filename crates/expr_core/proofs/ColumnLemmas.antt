@@ -1,12 +1,12 @@
 -- Columns as a record.
 use Rattle.std.proofs.Common.{◌≡◌, ℕ, zero, suc, ◌+◌, ◌-◌, ◌≤◌, ◌<◌, Bool, true, false, ◌&&◌, List, [], ◌∷◌, ◌++◌, length, take, drop, map, flat_map, sum_by, refl, sym, ap, ◌∙◌, subst, arith, Option, Some, None, is_some, nat_le, IsTrue, length-append, append_assoc, append-nil, get_or, length-drop}
-use Rattle.std.specs.List.{list_all}
+use Rattle.std.specs.List.{list_all, AllZip}
 use Rattle.std.specs.Int.{to_be_bytes, w16}
 use Rattle.std.proofs.lemmas.Bool.{leb-true}
 use Rattle.std.proofs.lemmas.List.{take_rest, take_at, drop_at, take-append-le, length-take-le, take_more}
 use Rattle.std.proofs.lemmas.List.Sums.{sum_by-cons}
 use Rattle.std.proofs.Math.Seq.{take-add}
-use Rattle.flow_types.specs.Limits.{text_limit, record_limit}
+use Rattle.flow_types.specs.Limits.{text_limit, field_limit, record_limit}
 use Rattle.flow_types.specs.declared.value.Value.{Value}
 use Rattle.flow_types.specs.declared.value.Value.TheVariants as value
 use Rattle.flow_types.specs.declared.field_type.FieldType.{FieldType}
@@ -14,12 +14,14 @@ use Rattle.flow_types.specs.declared.field_type.FieldType.TheVariants as type
 use Rattle.flow_types.specs.declared.expr.Expr.{Expr}
 use Rattle.flow_types.specs.Values.{bytes_of, flag_of}
 use Rattle.flow_types.specs.Tuples.{Tuple}
-use Rattle.flow_types.specs.Types.{Fields, fits, fits_field, width}
+use Rattle.flow_types.specs.Types.{Fields, fits, fits_field, width, widest, is_schema, is_bounded}
 use Rattle.flow_types.specs.Records.{form, value_form}
 use Rattle.flow_types.specs.Expressions.{val}
 use Rattle.flow_types.specs.ExprTypes.{type_of, typing_of, is_limited}
 use Rattle.flow_types.proofs.ValueLemmas.{both_true}
 use Rattle.flow_types.proofs.TypeLaws.{value_fits}
+use Rattle.flow_types.proofs.ColumnLaws.{tuple-columns}
+use Rattle.expr_core.specs.Laws.{ColumnsOfASchema}
 use Rattle.record_codec.proofs.RecordLemmas.{form_width}
 use Rattle.expr_core.specs.declared.seen.Seen.{Seen}
 use Rattle.expr_core.specs.declared.seen.Seen.TheVariants as seen
@@ -135,3 +137,28 @@ pub bool_value : (v : Value) → fits_field type.Bool v ≡ true → v ≡ value
 bool_value (value.Long n) h = cc
 bool_value (value.Bool b) h = refl
 bool_value (value.Str s) h = cc
+
+-- ---- columns of a schema
+
+columns_wide : (fields : Fields) (columns : List Expr) (types : Fields) → AllZip (λ e f. type_of fields e ≡ Some f) columns types
+    → widest_of fields columns ≡ widest types
+columns_wide fields [] [] h = refl
+columns_wide fields [] (f ∷ types) h = absurd h
+columns_wide fields (e ∷ es) [] h = absurd h
+columns_wide fields (e ∷ es) (f ∷ types) h =
+    sum_by-cons (λ e. width_of_type (type_of fields e)) e es
+    ∙ ap (λ (o : Option FieldType). width_of_type o + widest_of fields es) h.0
+    ∙ ap (λ (n : ℕ). width f + n) (columns_wide fields es types h.1)
+    ∙ sym (sum_by-cons width f types)
+
+columns_small : (fields : Fields) (columns : List Expr) (types : Fields) → AllZip (λ e f. type_of fields e ≡ Some f) columns types
+    → IsTrue (is_schema types) → widest_of fields columns ≤ record_limit
+columns_small fields columns types h schema =
+    omega (arith, columns_wide fields columns types h,
+    leb-true (widest types) record_limit (both_true (nat_le 1 (length types) && nat_le (length types) field_limit && list_all is_bounded types) (nat_le (widest types) record_limit) schema).1)
+
+pub columns_of_a_schema : ColumnsOfASchema
+columns_of_a_schema = record {
+  small = columns_small;
+  whole = λ fields t columns types row h. record { tuple = tuple-columns fields t row columns types h; formed = refl };
+}

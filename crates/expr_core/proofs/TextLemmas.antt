@@ -1,8 +1,9 @@
 -- Steps over texts, piece by piece.
-use Rattle.std.proofs.Common.{◌≡◌, ◌≢◌, ℕ, zero, suc, ◌+◌, ◌-◌, ◌<◌, ◌≤◌, List, [], ◌∷◌, ◌++◌, length, take, drop, refl, sym, ◌∙◌, ap, subst, arith, length-append, length-drop, Bool, true, false, cond, nat_le}
+use Rattle.std.proofs.Common.{◌≡◌, ◌≢◌, ℕ, zero, suc, ◌+◌, ◌-◌, ◌<◌, ◌≤◌, ◌⊎◌, inl, inr, List, [], ◌∷◌, ◌++◌, length, take, drop, refl, sym, ◌∙◌, ap, subst, arith, length-append, length-drop, Bool, true, false, cond, nat_le}
 use Rattle.std.proofs.lemmas.Bool.{leb-true}
 use Rattle.std.specs.Prelude.{slice_index}
 use Rattle.flow_types.specs.Expressions.{goes_on, cut_place}
+use Rattle.flow_types.proofs.TupleLemmas.{slice_cmp_done}
 use Rattle.std.proofs.lemmas.List.{take-append-le, drop-take, drop-drop, take_at, drop_at, length-take-le}
 use Rattle.std.proofs.Math.Seq.{take-add}
 use Rattle.std.specs.Cmp.Lexicographic.{slice_cmp}
@@ -113,6 +114,17 @@ module _ (a b left right : List ℕ) (at n : ℕ)
   compare_found Less is differ = split ∙ ap (λ (o : Ordering). ordering_then o (slice_cmp nat_cmp (drop n (drop at a)) (drop n (drop at b)))) is
   compare_found Equal is differ = absurd (differ refl)
   compare_found Greater is differ = split ∙ ap (λ (o : Ordering). ordering_then o (slice_cmp nat_cmp (drop n (drop at a)) (drop n (drop at b)))) is
+
+-- at the end of the shorter text the lengths decide
+pub compare_done : (a b : List ℕ) (at m n : ℕ) (o : Ordering) → length a ≡ m → length b ≡ n → at ≤ m → at ≤ n → (m ≤ at) ⊎ (n ≤ at)
+    → slice_cmp nat_cmp a b ≡ slice_cmp nat_cmp (drop at a) (drop at b) → o ≡ nat_cmp m n → o ≡ slice_cmp nat_cmp a b
+compare_done a b at m n o left right low short ends same is =
+    let at_end : (length a ≤ at) ⊎ (length b ≤ at) = elim ends [ inl h ↦ inl (omega (arith, h, left)) | inr h ↦ inr (omega (arith, h, right)) ] in
+    is
+    ∙ ap (λ (k : ℕ). nat_cmp k n) (sym left)
+    ∙ ap (λ (k : ℕ). nat_cmp (length a) k) (sym right)
+    ∙ slice_cmp_done nat_cmp a b at (omega (arith, low, left)) (omega (arith, short, right)) at_end
+    ∙ sym same
 
 -- ---- copies
 

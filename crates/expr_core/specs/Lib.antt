@@ -1,3 +1,4 @@
 pub mod Places
 pub mod Needs
 pub mod Joined
+pub mod Laws

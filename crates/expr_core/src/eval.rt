@@ -13,18 +13,7 @@ use flow_types::expr::Expr;
 
 /// The value of an expression, seen where it lies. Texts are written to the room only where they are
 /// joined; what of the room is behind the value's own bytes has no meaning then.
-#[tactic(
-    auto,
-    using(
-        crate::proofs::ExprLemmas::short_value,
-        crate::proofs::ExprLemmas::typed_right,
-        crate::proofs::ExprLemmas::typed_then,
-        crate::proofs::ExprLemmas::typed_else,
-        crate::proofs::ExprLemmas::room_then,
-        crate::proofs::ExprLemmas::room_else,
-        crate::proofs::ExprLemmas::room_right
-    )
-)]
+#[tactic(auto, using(crate::proofs::ExprLemmas::short_value))]
 pub(crate) fn eval<'e, R: Source>(expr: &'e Expr, row: &R, room: &mut [u8]) -> Seen<'e>
     requires whole { R.IsWhole row.now }
     requires fitting { IsTrue (fits (R.fields row.now) (R.tuple row.now)) }

@@ -10,6 +10,7 @@ mod arithmetic;
 mod columns;
 mod eval;
 pub mod evaluate;
+pub mod laws;
 mod operation;
 pub mod scratch;
 mod seen;

@@ -1,8 +1,7 @@
 use Rattle.std.proofs.Common.{◌≡◌, ◌≤◌, ◌+◌, ℕ, List, length, sym, ◌∙◌, ap, inl, inr, arith, take}
 use Rattle.std.specs.Ordering.{nat_cmp}
-use Rattle.flow_types.proofs.TupleLemmas.{slice_cmp_done}
 use Rattle.expr_core.specs.Places.{text_bytes, origin_bytes}
-use Rattle.expr_core.proofs.TextLemmas.{compare_more, compare_found, text_len}
+use Rattle.expr_core.proofs.TextLemmas.{compare_more, compare_found, compare_done, text_len}
 use Rattle.expr_core.proofs.text.compare_texts.Goals as goal
 use Rattle.expr_core.proofs.text.compare_texts.Goals.{then-loop-at-test+else-at-b_len, else-loop-at-test}
 
@@ -26,18 +25,10 @@ returns-in_default g c =
 pub returns : goal.returns
 returns g c =
     let seen : List ℕ = g.R.Source.seen c.args.row.now in
-    let x : List ℕ = text_bytes seen c.args.room.now c.args.a.now in
-    let y : List ℕ = text_bytes seen c.args.rest.now c.args.b.now in
-    let left : length x ≡ c.args.a.now.len = text_len c.args.a.now.len (origin_bytes seen c.args.room.now c.args.a.now.origin) c.requires.a_inside in
-    let right : length y ≡ c.args.b.now.len = text_len c.args.b.now.len (origin_bytes seen c.args.rest.now c.args.b.now.origin) c.requires.b_inside in
-    let inv = c.loop-at.invariant in
-    let done = slice_cmp_done nat_cmp x y c.loop-at.at
-    (omega (arith, inv.left, left, c.from-a_len.ensures)) (omega (arith, inv.right, right, c.from-b_len.ensures)) in
-    c.cmp-2.ensures
-    ∙ ap (λ (n : ℕ). nat_cmp n c.from-b_len.result) (c.from-a_len.ensures ∙ sym left)
-    ∙ ap (λ (n : ℕ). nat_cmp (length x) n) (c.from-b_len.ensures ∙ sym right)
-    ∙ elim c.loop-at-test.branch [
-      then-loop-at-test+else-at-b_len w ↦ done (inr (omega (arith, w.if-at-b_len.false, right, c.from-b_len.ensures)))
-      | else-loop-at-test w ↦ done (inl (omega (arith, w.loop-at-test.false, left, c.from-a_len.ensures)))
-    ]
-    ∙ sym inv.same
+    compare_done (text_bytes seen c.args.room.now c.args.a.now) (text_bytes seen c.args.rest.now c.args.b.now)
+    c.loop-at.at c.from-a_len.result c.from-b_len.result c.cmp-2.result
+    (text_len c.args.a.now.len (origin_bytes seen c.args.room.now c.args.a.now.origin) c.requires.a_inside ∙ sym c.from-a_len.ensures)
+    (text_len c.args.b.now.len (origin_bytes seen c.args.rest.now c.args.b.now.origin) c.requires.b_inside ∙ sym c.from-b_len.ensures)
+    c.loop-at.invariant.left c.loop-at.invariant.right
+    (elim c.loop-at-test.branch [ then-loop-at-test+else-at-b_len w ↦ inr (omega (arith, w.if-at-b_len.false)) | else-loop-at-test w ↦ inl (omega (arith, w.loop-at-test.false)) ])
+    c.loop-at.invariant.same c.cmp-2.ensures
