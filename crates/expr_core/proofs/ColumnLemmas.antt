@@ -154,8 +154,11 @@ columns_wide fields (e ∷ es) (f ∷ types) h =
 columns_small : (fields : Fields) (columns : List Expr) (types : Fields) → AllZip (λ e f. type_of fields e ≡ Some f) columns types
     → IsTrue (is_schema types) → widest_of fields columns ≤ record_limit
 columns_small fields columns types h schema =
-    omega (arith, columns_wide fields columns types h,
-    leb-true (widest types) record_limit (both_true (nat_le 1 (length types) && nat_le (length types) field_limit && list_all is_bounded types) (nat_le (widest types) record_limit) schema).1)
+    omega (
+      arith,
+      columns_wide fields columns types h,
+      leb-true (widest types) record_limit (both_true (nat_le 1 (length types) && nat_le (length types) field_limit && list_all is_bounded types) (nat_le (widest types) record_limit) schema).1,
+    )
 
 pub columns_of_a_schema : ColumnsOfASchema
 columns_of_a_schema = record {

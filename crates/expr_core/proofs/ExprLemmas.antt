@@ -83,9 +83,9 @@ module _ (fields : Fields) where
       let narrow = both_true (typing_of fields a).narrow (typing_of fields b).narrow (has_narrow (expr.Bin op a b) layer (typing-Bin op a b) h) in (
         of_parts a (bind_first (λ (x : FieldType). option_and_then (λ (y : FieldType). type_of_two op x y) (type_of fields b)) (type_of fields a) some) narrow.0,
         of_parts b
-        (bind_inner (λ (x : FieldType). option_and_then (λ (y : FieldType). type_of_two op x y) (type_of fields b)) (type_of fields a) (type_of fields b)
-        (λ x k. bind_first (λ (y : FieldType). type_of_two op x y) (type_of fields b) k) some)
-        narrow.1,
+            (bind_inner (λ (x : FieldType). option_and_then (λ (y : FieldType). type_of_two op x y) (type_of fields b)) (type_of fields a) (type_of fields b)
+            (λ x k. bind_first (λ (y : FieldType). type_of_two op x y) (type_of fields b) k) some)
+            narrow.1,
       )
 
   pub typed_if : (c a b : Expr) → is_typed fields (expr.If c a b) ≡ true
@@ -100,9 +100,9 @@ module _ (fields : Fields) where
         of_parts c (bind_first middle (type_of fields c) some) front.0,
         of_parts a (bind_inner middle (type_of fields c) (type_of fields a) (λ x k. bind_first (last x) (type_of fields a) k) some) front.1,
         of_parts b
-        (bind_inner middle (type_of fields c) (type_of fields b)
-        (λ x k. bind_inner (last x) (type_of fields a) (type_of fields b) (λ y l. bind_first (λ (z : FieldType). type_of_choice x y z) (type_of fields b) l) k) some)
-        narrow.1,
+            (bind_inner middle (type_of fields c) (type_of fields b)
+            (λ x k. bind_inner (last x) (type_of fields a) (type_of fields b) (λ y l. bind_first (λ (z : FieldType). type_of_choice x y z) (type_of fields b) l) k) some)
+            narrow.1,
       )
 
   -- ---- the length of a value's text

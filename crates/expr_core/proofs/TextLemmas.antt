@@ -185,6 +185,7 @@ head_at x piece len is some = ap (λ (p : List ℕ). slice_index p 0) is ∙ fir
     first zero xs some = absurd (omega arith)
     first (suc n) [] some = refl
     first (suc n) (y ∷ ys) some = refl
+
     at : (k : ℕ) (xs : List ℕ) → slice_index (drop k xs) 0 ≡ slice_index xs k
     at zero [] = refl
     at zero (y ∷ ys) = refl

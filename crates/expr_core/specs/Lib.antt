@@ -2,3 +2,4 @@ pub mod Places
 pub mod Needs
 pub mod Joined
 pub mod Laws
+pub mod Known

@@ -10,9 +10,13 @@ mod arithmetic;
 mod columns;
 mod eval;
 pub mod evaluate;
+#[cfg(test)]
+mod known;
 pub mod laws;
 mod operation;
 pub mod scratch;
 mod seen;
 mod source;
+#[cfg(test)]
+mod tests;
 mod text;

@@ -148,10 +148,12 @@ fn moved(seen: Seen<'_>, by: usize) -> Seen<'_>
     ensures held { held result ≡ held seen.entry }
 {
     match seen {
-        Seen::Str(TextPlace {
-            origin: Origin::Record(start),
-            len,
-        }) => Seen::Str(TextPlace {
+        Seen::Str(
+            TextPlace {
+                origin: Origin::Record(start),
+                len,
+            },
+        ) => Seen::Str(TextPlace {
             origin: Origin::Record(start + by as u16),
             len,
         }),

@@ -23,17 +23,56 @@ returns-in-Bin-clause-value g t c =
     _ c.apply_two.ensures.value
 
 pub eval-b-requires : goal.eval-b-requires
-eval-b-requires g t c κs within = (omega (arith, parts_right c.args.expr.now c.in-Bin.op c.in-Bin.a c.in-Bin.b c.get-in-Bin-2.result.now c.get-in-Bin-2.ensures c.in-Bin.is, c.decreases), (within, (c.requires.whole, (c.requires.fitting, (
-  typed_right (g.R.Source.fields c.args.row.now) c.args.expr.now c.in-Bin.op c.in-Bin.a c.in-Bin.b c.get-in-Bin-2.result.now c.get-in-Bin-2.ensures c.in-Bin.is c.requires.typed,
-  room_right c.args.expr.now c.in-Bin.op c.in-Bin.a c.in-Bin.b c.get-in-Bin-2.result.now (g.R.Source.seen c.args.row.now) c.eval-a-in-Bin.new.room c.eval-a-in-Bin.result _ c.held.result (length c.args.room.now)
-  c.get-in-Bin-2.ensures c.in-Bin.is c.requires.space c.eval-a-in-Bin.auto.room c.held.ensures c.eval-a-in-Bin.ensures.inside c.eval-a-in-Bin.ensures.value c.eval-a-in-Bin.ensures.short)))))
+eval-b-requires g t c κs within = (
+  omega (arith, parts_right c.args.expr.now c.in-Bin.op c.in-Bin.a c.in-Bin.b c.get-in-Bin-2.result.now c.get-in-Bin-2.ensures c.in-Bin.is, c.decreases),
+  (
+    within,
+    (
+      c.requires.whole,
+      (
+        c.requires.fitting,
+        (
+          typed_right (g.R.Source.fields c.args.row.now) c.args.expr.now c.in-Bin.op c.in-Bin.a c.in-Bin.b c.get-in-Bin-2.result.now c.get-in-Bin-2.ensures c.in-Bin.is c.requires.typed,
+          room_right c.args.expr.now c.in-Bin.op c.in-Bin.a c.in-Bin.b c.get-in-Bin-2.result.now (g.R.Source.seen c.args.row.now) c.eval-a-in-Bin.new.room c.eval-a-in-Bin.result _ c.held.result (length c.args.room.now)
+              c.get-in-Bin-2.ensures c.in-Bin.is c.requires.space c.eval-a-in-Bin.auto.room c.held.ensures c.eval-a-in-Bin.ensures.inside c.eval-a-in-Bin.ensures.value c.eval-a-in-Bin.ensures.short,
+        ),
+      ),
+    ),
+  ),
+)
 
 pub eval-requires : goal.eval-requires
-eval-requires g t c κs within = (omega (arith, parts_then c.args.expr.now c.in-If.c c.in-If.a c.in-If.b c.get-then-flag.result.now c.get-then-flag.ensures c.in-If.is, c.decreases), (within, (c.requires.whole, (c.requires.fitting, (
-  typed_then (g.R.Source.fields c.args.row.now) c.args.expr.now c.in-If.c c.in-If.a c.in-If.b c.get-then-flag.result.now c.get-then-flag.ensures c.in-If.is c.requires.typed,
-  room_then c.args.expr.now c.in-If.c c.in-If.a c.in-If.b c.get-then-flag.result.now _ (length c.args.room.now) c.get-then-flag.ensures c.in-If.is c.requires.space c.eval-c.auto.room)))))
+eval-requires g t c κs within = (
+  omega (arith, parts_then c.args.expr.now c.in-If.c c.in-If.a c.in-If.b c.get-then-flag.result.now c.get-then-flag.ensures c.in-If.is, c.decreases),
+  (
+    within,
+    (
+      c.requires.whole,
+      (
+        c.requires.fitting,
+        (
+          typed_then (g.R.Source.fields c.args.row.now) c.args.expr.now c.in-If.c c.in-If.a c.in-If.b c.get-then-flag.result.now c.get-then-flag.ensures c.in-If.is c.requires.typed,
+          room_then c.args.expr.now c.in-If.c c.in-If.a c.in-If.b c.get-then-flag.result.now _ (length c.args.room.now) c.get-then-flag.ensures c.in-If.is c.requires.space c.eval-c.auto.room,
+        ),
+      ),
+    ),
+  ),
+)
 
 pub eval-requires-else-flag : goal.eval-requires-else-flag
-eval-requires-else-flag g t c κs within = (omega (arith, parts_else c.args.expr.now c.in-If.c c.in-If.a c.in-If.b c.get-else-flag.result.now c.get-else-flag.ensures c.in-If.is, c.decreases), (within, (c.requires.whole, (c.requires.fitting, (
-  typed_else (g.R.Source.fields c.args.row.now) c.args.expr.now c.in-If.c c.in-If.a c.in-If.b c.get-else-flag.result.now c.get-else-flag.ensures c.in-If.is c.requires.typed,
-  room_else c.args.expr.now c.in-If.c c.in-If.a c.in-If.b c.get-else-flag.result.now _ (length c.args.room.now) c.get-else-flag.ensures c.in-If.is c.requires.space c.eval-c.auto.room)))))
+eval-requires-else-flag g t c κs within = (
+  omega (arith, parts_else c.args.expr.now c.in-If.c c.in-If.a c.in-If.b c.get-else-flag.result.now c.get-else-flag.ensures c.in-If.is, c.decreases),
+  (
+    within,
+    (
+      c.requires.whole,
+      (
+        c.requires.fitting,
+        (
+          typed_else (g.R.Source.fields c.args.row.now) c.args.expr.now c.in-If.c c.in-If.a c.in-If.b c.get-else-flag.result.now c.get-else-flag.ensures c.in-If.is c.requires.typed,
+          room_else c.args.expr.now c.in-If.c c.in-If.a c.in-If.b c.get-else-flag.result.now _ (length c.args.room.now) c.get-else-flag.ensures c.in-If.is c.requires.space c.eval-c.auto.room,
+        ),
+      ),
+    ),
+  ),
+)
