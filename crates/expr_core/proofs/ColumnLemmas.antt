@@ -18,7 +18,7 @@ use Rattle.flow_types.specs.Types.{Fields, fits, fits_field, width, widest, is_s
 use Rattle.flow_types.specs.Records.{form, value_form}
 use Rattle.flow_types.specs.Expressions.{val}
 use Rattle.flow_types.specs.ExprTypes.{type_of, typing_of, is_limited}
-use Rattle.flow_types.proofs.ValueLemmas.{both_true}
+use Rattle.flow_types.proofs.ValueLemmas.{both_true, both_pass}
 use Rattle.flow_types.proofs.TypeLaws.{value_fits}
 use Rattle.flow_types.proofs.ColumnLaws.{tuple-columns}
 use Rattle.expr_core.specs.Laws.{ColumnsOfASchema}
@@ -165,3 +165,36 @@ columns_of_a_schema = record {
   small = columns_small;
   whole = λ fields t columns types row h. record { tuple = tuple-columns fields t row columns types h; formed = refl };
 }
+
+-- ---- a walk over columns
+
+-- the first columns were looked at
+pub record Checked (fields : Fields) (columns : List Expr) (i total : ℕ) : Type 0 where
+  pub typed : IsTrue (are_typed fields (take i columns))
+  pub wide : total ≡ widest_of fields (take i columns)
+  pub low : total ≤ record_limit
+
+module _ (fields : Fields) where
+  widest_snoc : (es : List Expr) (e : Expr) → widest_of fields (es ++ e ∷ []) ≡ widest_of fields es + width_of_type (type_of fields e)
+  widest_snoc [] e = omega (arith, sum_by-cons (λ e. width_of_type (type_of fields e)) e [])
+  widest_snoc (d ∷ es) e =
+      omega (arith, widest_snoc es e, sum_by-cons (λ e. width_of_type (type_of fields e)) d (es ++ e ∷ []), sum_by-cons (λ e. width_of_type (type_of fields e)) d es)
+
+  typed_snoc : (es : List Expr) (e : Expr) → are_typed fields es ≡ true → (is_typed fields e && is_limited e) ≡ true → are_typed fields (es ++ e ∷ []) ≡ true
+  typed_snoc [] e all here = both_pass (is_typed fields e && is_limited e) true here refl
+  typed_snoc (d ∷ es) e all here =
+      let parts = both_true (is_typed fields d && is_limited d) (are_typed fields es) all in
+      both_pass (is_typed fields d && is_limited d) (are_typed fields (es ++ e ∷ [])) parts.0 (typed_snoc es e parts.1 here)
+
+  -- one column more
+  pub checked_more : (columns : List Expr) (i total more : ℕ) (e : Expr) → i < length columns → e ≡ get_or columns i e → Checked fields columns i total
+      → more ≡ width_of_type (type_of fields e) → IsTrue (is_typed fields e && is_limited e) → total + more ≤ record_limit
+      → Checked fields columns (i + 1) (total + more)
+  checked_more columns i total more e inside is before more_is here low =
+      let next : take (i + 1) columns ≡ take i columns ++ e ∷ [] =
+      take_more columns i e inside ∙ ap (λ (x : Expr). take i columns ++ x ∷ []) (sym is) in
+      record {
+        typed = ap (are_typed fields) next ∙ typed_snoc (take i columns) e before.typed here;
+        wide = omega (arith, ap (widest_of fields) next, widest_snoc (take i columns) e, before.wide, more_is);
+        low = low;
+      }

@@ -1,3 +1,5 @@
+// For tests alone: an expression's type and extent, told by a walk over it. `test` and `columns_into` may be
+// called where it tells that their conditions hold.
 ghost use Rattle.std.specs.Prelude.{◌≡◌, ◌≤◌, ◌&&◌, IfSome, IsTrue, Some, slice_get};
 ghost use Rattle.flow_types.specs.Limits.{record_limit};
 ghost use Rattle.flow_types.specs.ExprTypes.{type_of, typing_of, is_limited, type_of_value, type_of_one, type_of_two, type_of_choice, type_of_cut, widened};
@@ -208,10 +210,10 @@ pub fn are_columns(columns: &[Expr], fields: &[FieldType]) -> bool
 {
     let mut total = 0;
     for column in columns {
-        match column_width(column, fields) {
-            Some(width) => total += width,
-            None => return false,
-        }
+        let Some(width) = column_width(column, fields) else {
+            return false;
+        };
+        total += width;
         if total > RECORD_LIMIT {
             return false;
         }
