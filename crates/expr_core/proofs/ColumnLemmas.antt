@@ -1,5 +1,5 @@
 -- Columns as a record.
-use Rattle.std.proofs.Common.{◌≡◌, ℕ, zero, suc, ◌+◌, ◌-◌, ◌≤◌, ◌<◌, Bool, true, false, ◌&&◌, List, [], ◌∷◌, ◌++◌, length, take, drop, map, flat_map, sum_by, refl, sym, ap, ◌∙◌, subst, arith, Option, Some, None, is_some, nat_le, IsTrue, length-append, append_assoc, append-nil, get_or, length-drop}
+use Rattle.std.proofs.Common.{◌≡◌, ℕ, zero, suc, ◌+◌, ◌-◌, ◌≤◌, ◌<◌, true, ◌&&◌, List, [], ◌∷◌, ◌++◌, length, take, drop, map, refl, sym, ap, ◌∙◌, arith, Option, Some, None, is_some, nat_le, IsTrue, length-append, append_assoc, append-nil, get_or, length-drop}
 use Rattle.std.specs.List.{list_all, AllZip}
 use Rattle.std.specs.Int.{to_be_bytes, w16}
 use Rattle.std.proofs.lemmas.Bool.{leb-true}

@@ -1,7 +1,6 @@
 -- What the parts of an expression have, and how long the text of its value is.
-use Rattle.std.proofs.Common.{◌≡◌, ℕ, ◌+◌, ◌*◌, ◌≤◌, ◌<◌, Bool, true, false, ◌&&◌, List, length, max, refl, sym, ap, ◌∙◌, subst, arith, Option, Some, None, option_and_then, is_some, nat_le, IsTrue, ◌-◌, take, drop, length-drop, ◌++◌}
+use Rattle.std.proofs.Common.{◌≡◌, ℕ, ◌+◌, ◌≤◌, ◌<◌, true, ◌&&◌, List, length, max, refl, sym, ap, ◌∙◌, subst, arith, Option, Some, None, option_and_then, is_some, IsTrue, ◌-◌, take, drop, length-drop, ◌++◌}
 use Rattle.std.proofs.lemmas.List.{length-take-le, take_at, drop_at}
-use Rattle.std.proofs.lemmas.Bool.Decides.{nat_tests}
 use Rattle.std.proofs.lemmas.Bool.{leb-true}
 use Rattle.flow_types.specs.Limits.{text_limit}
 use Rattle.flow_types.specs.declared.value.Value.{Value}

@@ -2,7 +2,6 @@
 use Rattle.std.proofs.Common.{◌≡◌, ℕ, zero, suc, ◌+◌, ◌-◌, ◌<◌, ◌≤◌, List, [], ◌∷◌, ◌++◌, length, take, drop, slice_index_or, refl, sym, ◌∙◌, ap, arith, not, ◌==◌, slice_index}
 use Rattle.std.specs.Int.{from_be_bytes, w16}
 use Rattle.std.proofs.lemmas.List.{drop-drop}
-use Rattle.flow_types.specs.declared.value.Value.{Value}
 use Rattle.flow_types.specs.declared.value.Value.TheVariants as value
 use Rattle.flow_types.specs.declared.field_type.FieldType.{FieldType}
 use Rattle.flow_types.specs.declared.field_type.FieldType.TheVariants as type
@@ -12,7 +11,7 @@ use Rattle.flow_types.specs.Records.{first_value, taken, tuple_of}
 use Rattle.record_codec.specs.declared.place.Place.{Place}
 use Rattle.record_codec.specs.Places.{place_in, place_of, start_of}
 use Rattle.record_codec.proofs.PlaceLemmas.{tuple_at}
-use Rattle.expr_core.specs.Places.{value_at, least_len}
+use Rattle.expr_core.specs.Places.{value_at}
 
 pub length-tuple_of : (fields : Fields) (bytes : List ℕ) → length (tuple_of fields bytes) ≡ length fields
 length-tuple_of [] bytes = refl

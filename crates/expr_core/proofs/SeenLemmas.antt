@@ -1,5 +1,5 @@
 -- What was seen, where other bytes change or are added.
-use Rattle.std.proofs.Common.{◌≡◌, ℕ, zero, suc, ◌+◌, ◌<◌, ◌≤◌, List, [], ◌∷◌, ◌++◌, length, take, drop, refl, sym, ◌∙◌, ap, arith, true, nat_le, IsTrue, length-append}
+use Rattle.std.proofs.Common.{◌≡◌, ℕ, zero, suc, ◌+◌, ◌≤◌, List, [], ◌∷◌, ◌++◌, length, take, drop, refl, sym, ◌∙◌, ap, arith, true, nat_le, IsTrue, length-append}
 use Rattle.std.proofs.lemmas.List.{take-append-le, length-drop, length-take-le}
 use Rattle.std.proofs.lemmas.Bool.{leb-true}
 use Rattle.std.proofs.Math.Seq.{take-add}
@@ -13,7 +13,7 @@ use Rattle.expr_core.specs.declared.seen.Seen.TheVariants as seen
 use Rattle.expr_core.specs.declared.seen.Origin.{Origin}
 use Rattle.expr_core.specs.declared.seen.Origin.TheVariants as origin
 use Rattle.expr_core.specs.declared.seen.TextPlace.{TextPlace}
-use Rattle.expr_core.specs.Places.{origin_bytes, text_bytes, is_text_inside, value_in, is_inside, held, held_by}
+use Rattle.expr_core.specs.Places.{origin_bytes, text_bytes, value_in, is_inside, held, held_by}
 
 le_test : (m n : ℕ) → m ≤ n → nat_le m n ≡ true
 le_test m n h = grind (arith, nat_tests)

@@ -1,7 +1,6 @@
 use Rattle.std.specs.Prelude.{◌≡◌, ◌≤◌, IsTrue, Some, List, map}
 use Rattle.std.specs.List.{AllZip}
 use Rattle.flow_types.specs.Limits.{record_limit}
-use Rattle.flow_types.specs.declared.field_type.FieldType.{FieldType}
 use Rattle.flow_types.specs.declared.expr.Expr.{Expr}
 use Rattle.flow_types.specs.Types.{Fields, is_schema}
 use Rattle.flow_types.specs.Tuples.{Tuple}

@@ -49,8 +49,11 @@ pub fn columns_into<'s, A: Span, B: Span>(
     requires left_whole { IsRecord ls.now (A.seen left.now) }
     requires right_whole { IfSome right (λ r. IsRecord rs.now (B.seen r.now)) }
     requires typed { IsTrue (are_typed (joined_fields ls.now rs.now (option_map (λ r. B.seen r.now) right)) cols.now) }
-    requires small { widest_of (joined_fields ls.now rs.now (option_map (λ r. B.seen r.now) right)) cols.now ≤ record_limit }
-    ensures bytes { result.now ≡ form (map (λ e. val (joined_tuple ls.now (A.seen left.now) rs.now (option_map (λ r. B.seen r.now) right.entry)) e) cols.now) }
+    requires small { widest_of (joined_fields ls.now rs.now (option_map (λ r. B.seen r.now) right)) cols.now
+        ≤ record_limit }
+    ensures bytes { result.now
+        ≡ form (map (λ e. val (joined_tuple ls.now (A.seen left.now) rs.now (option_map
+        (λ r. B.seen r.now) right.entry)) e) cols.now) }
     ensures small { length result.now ≤ record_limit }
 {
     let len = write_record(cols, left, ls, right, rs, s.bytes.as_mut_slice());
@@ -69,9 +72,12 @@ fn write_record<A: Span, B: Span>(
     requires left_whole { IsRecord ls.now (A.seen left.now) }
     requires right_whole { IfSome right (λ r. IsRecord rs.now (B.seen r.now)) }
     requires typed { IsTrue (are_typed (joined_fields ls.now rs.now (option_map (λ r. B.seen r.now) right)) cols.now) }
-    requires small { widest_of (joined_fields ls.now rs.now (option_map (λ r. B.seen r.now) right)) cols.now ≤ record_limit }
+    requires small { widest_of (joined_fields ls.now rs.now (option_map (λ r. B.seen r.now) right)) cols.now
+        ≤ record_limit }
     requires space { length room.old ≡ scratch_bytes }
-    ensures bytes { take result room.new ≡ form (map (λ e. val (joined_tuple ls.now (A.seen left.now) rs.now (option_map (λ r. B.seen r.now) right.entry)) e) cols.now) }
+    ensures bytes { take result room.new
+        ≡ form (map (λ e. val (joined_tuple ls.now (A.seen left.now) rs.now (option_map
+        (λ r. B.seen r.now) right.entry)) e) cols.now) }
     ensures small { result ≤ record_limit }
 {
     match right {

@@ -14,7 +14,8 @@ use std::cmp::Ordering;
 
 /// An operation on one value.
 pub(crate) fn apply_one<'e>(op: UnOp, a: &Seen<'_>) -> Seen<'e>
-    ensures value { (bytes room : List ℕ) → IsTrue (is_inside bytes room a.now) → value_in bytes room result ≡ apply_one op (value_in bytes room a.now) }
+    ensures value { (bytes room : List ℕ) → IsTrue (is_inside bytes room a.now) → value_in bytes room result
+        ≡ apply_one op (value_in bytes room a.now) }
     ensures inside { (bytes room : List ℕ) → IsTrue (is_inside bytes room result) }
 {
     match op {
@@ -35,8 +36,11 @@ pub(crate) fn apply_two<'e, R: Source>(
     requires a_inside { IsTrue (is_inside (R.seen row.now) room.old a.now) }
     requires b_inside { IsTrue (is_inside (R.seen row.now) (drop (held a.now) room.old) b.now) }
     requires space { text_limit ≤ length room.old }
-    requires short { length (bytes_of (apply_two op (value_in (R.seen row.now) room.old a.now) (value_in (R.seen row.now) (drop (held a.now) room.old) b.now))) ≤ text_limit }
-    ensures value { value_in (R.seen row.now) room.new result ≡ apply_two op (value_in (R.seen row.now) room.old a.now) (value_in (R.seen row.now) (drop (held a.now) room.old) b.now) }
+    requires short { length (bytes_of (apply_two op (value_in (R.seen row.now) room.old a.now)
+        (value_in (R.seen row.now) (drop (held a.now) room.old) b.now))) ≤ text_limit }
+    ensures value { value_in (R.seen row.now) room.new result
+        ≡ apply_two op (value_in (R.seen row.now) room.old a.now) (value_in (R.seen row.now)
+        (drop (held a.now) room.old) b.now) }
     ensures inside { IsTrue (is_inside (R.seen row.now) room.new result) }
 {
     match op {
@@ -61,7 +65,9 @@ pub(crate) fn apply_two<'e, R: Source>(
 fn compare<'a, R: Source>(a: &Seen<'a>, b: &Seen<'a>, row: &'a R, room: &'a [u8]) -> Ordering
     requires a_inside { IsTrue (is_inside (R.seen row.now) room.now a.now) }
     requires b_inside { IsTrue (is_inside (R.seen row.now) (drop (held a.now) room.now) b.now) }
-    ensures { result ≡ value_cmp (value_in (R.seen row.now) room.now a.now) (value_in (R.seen row.now) (drop (held a.now) room.now) b.now) }
+    ensures { result
+        ≡ value_cmp (value_in (R.seen row.now) room.now a.now) (value_in (R.seen row.now)
+        (drop (held a.now) room.now) b.now) }
 {
     match a {
         Seen::Long(x) => match b {
@@ -83,7 +89,8 @@ fn compare<'a, R: Source>(a: &Seen<'a>, b: &Seen<'a>, row: &'a R, room: &'a [u8]
 /// The longest front of a text of at most so many bytes that ends between code points.
 pub(crate) fn cut_seen<'e, R: Source>(a: &Seen<'e>, most: u16, row: &R, room: &[u8]) -> Seen<'e>
     requires { IsTrue (is_inside (R.seen row.now) room.now a.now) }
-    ensures value { value_in (R.seen row.now) room.now result ≡ value.Str (cut most (bytes_of (value_in (R.seen row.now) room.now a.now))) }
+    ensures value { value_in (R.seen row.now) room.now result
+        ≡ value.Str (cut most (bytes_of (value_in (R.seen row.now) room.now a.now))) }
     ensures inside { IsTrue (is_inside (R.seen row.now) room.now result) }
 {
     Seen::Str(cut(&a.text(), most, row, room))
@@ -98,10 +105,13 @@ fn cat<'e, R: Source>(
     room: &mut [u8],
 ) -> TextPlace<'e>
     requires a_inside { IsTrue (is_text_inside (R.seen row.now) room.old a.now) }
-    requires b_inside { IsTrue (is_text_inside (R.seen row.now) (drop (held_by a.now.len a.now.origin) room.old) b.now) }
+    requires b_inside { IsTrue (is_text_inside (R.seen row.now)
+        (drop (held_by a.now.len a.now.origin) room.old) b.now) }
     requires space { text_limit ≤ length room.old }
     requires short { a.now.len + b.now.len ≤ text_limit }
-    ensures bytes { text_bytes (R.seen row.now) room.new result ≡ text_bytes (R.seen row.now) room.old a.now ++ text_bytes (R.seen row.now) (drop (held_by a.now.len a.now.origin) room.old) b.now }
+    ensures bytes { text_bytes (R.seen row.now) room.new result
+        ≡ text_bytes (R.seen row.now) room.old a.now
+        ++ text_bytes (R.seen row.now) (drop (held_by a.now.len a.now.origin) room.old) b.now }
     ensures inside { IsTrue (is_text_inside (R.seen row.now) room.new result) }
 {
     put_behind(b, a.held(), usize::from(a.len), row, room);
@@ -118,7 +128,8 @@ fn put_behind<R: Source>(text: &TextPlace<'_>, held: usize, place: usize, row: &
     requires inside { IsTrue (is_text_inside (R.seen row.now) (drop held room.old) text.now) }
     requires order { held ≤ place }
     requires space { place + text.now.len ≤ length room.old }
-    ensures bytes { take text.now.len (drop place room.new) ≡ text_bytes (R.seen row.now) (drop held room.old) text.now }
+    ensures bytes { take text.now.len (drop place room.new)
+        ≡ text_bytes (R.seen row.now) (drop held room.old) text.now }
     ensures front { take place room.new ≡ take place room.old }
 {
     match text.origin {

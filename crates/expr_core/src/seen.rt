@@ -81,7 +81,8 @@ impl<'e> Seen<'e> {
     /// The text of a Str; an empty one of another kind.
     pub(crate) fn text(&self) -> TextPlace<'e>
         ensures bytes { (bytes room : List ℕ) → text_bytes bytes room result ≡ bytes_of (value_in bytes room self.now) }
-        ensures inside { (bytes room : List ℕ) → IsTrue (is_inside bytes room self.now) → IsTrue (is_text_inside bytes room result) }
+        ensures inside { (bytes room : List ℕ) → IsTrue (is_inside bytes room self.now)
+            → IsTrue (is_text_inside bytes room result) }
         ensures held { held_by result.len result.origin ≡ held self.now }
     {
         match self {

@@ -75,13 +75,15 @@ pub(crate) struct Two<'a, A, B> {
 }
 
 impl<A: Span, B: Span> Source for Two<'_, A, B> {
-    ghost IsWhole = { λ s. IsRecord s.left_schema.now (A.seen s.left.now) × IsRecord s.right_schema.now (B.seen s.right.now) };
+    ghost IsWhole = { λ s. IsRecord s.left_schema.now (A.seen s.left.now)
+        × IsRecord s.right_schema.now (B.seen s.right.now) };
 
     ghost seen = { λ s. A.seen s.left.now ++ B.seen s.right.now };
 
     ghost fields = { λ s. s.left_schema.now ++ s.right_schema.now };
 
-    ghost tuple = { λ s. tuple_of s.left_schema.now (A.seen s.left.now) ++ tuple_of s.right_schema.now (B.seen s.right.now) };
+    ghost tuple = { λ s. tuple_of s.left_schema.now (A.seen s.left.now)
+        ++ tuple_of s.right_schema.now (B.seen s.right.now) };
 
     fn field<'e>(&self, number: u16) -> Seen<'e> {
         let number = usize::from(number);
@@ -105,7 +107,8 @@ impl<A: Span, B: Span> Source for Two<'_, A, B> {
 /// A field of one record, by its number from 0; the Long 0 past the end.
 fn field_of<'e, X: Span>(row: &X, schema: &Schema, number: usize) -> Seen<'e>
     requires { IsRecord schema.now (X.seen row.now) }
-    ensures value { (room : List ℕ) → value_in (X.seen row.now) room result ≡ field number (tuple_of schema.now (X.seen row.now)) }
+    ensures value { (room : List ℕ) → value_in (X.seen row.now) room result
+        ≡ field number (tuple_of schema.now (X.seen row.now)) }
     ensures inside { (room : List ℕ) → IsTrue (is_inside (X.seen row.now) room result) }
     ensures held { held result ≡ 0 }
     ensures start { starts_at result ≤ record_limit }
@@ -143,8 +146,10 @@ fn seen_at<'e, X: Span>(row: &X, field: FieldType, place: Place) -> Seen<'e>
 fn moved(seen: Seen<'_>, by: usize) -> Seen<'_>
     requires start { starts_at seen ≤ record_limit }
     requires few { by ≤ record_limit }
-    ensures value { (front bytes room : List ℕ) → length front ≡ by → value_in (front ++ bytes) room result ≡ value_in bytes room seen.entry }
-    ensures inside { (front bytes room : List ℕ) → length front ≡ by → IsTrue (is_inside bytes room seen.entry) → IsTrue (is_inside (front ++ bytes) room result) }
+    ensures value { (front bytes room : List ℕ) → length front ≡ by → value_in (front ++ bytes) room result
+        ≡ value_in bytes room seen.entry }
+    ensures inside { (front bytes room : List ℕ) → length front
+        ≡ by → IsTrue (is_inside bytes room seen.entry) → IsTrue (is_inside (front ++ bytes) room result) }
     ensures held { held result ≡ held seen.entry }
 {
     match seen {

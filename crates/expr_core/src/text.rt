@@ -39,7 +39,8 @@ pub(crate) fn compare_texts<'a, R: Source>(
 ) -> Ordering
     requires a_inside { IsTrue (is_text_inside (R.seen row.now) room.now a.now) }
     requires b_inside { IsTrue (is_text_inside (R.seen row.now) rest.now b.now) }
-    ensures { result ≡ slice_cmp nat_cmp (text_bytes (R.seen row.now) room.now a.now) (text_bytes (R.seen row.now) rest.now b.now) }
+    ensures { result
+        ≡ slice_cmp nat_cmp (text_bytes (R.seen row.now) room.now a.now) (text_bytes (R.seen row.now) rest.now b.now) }
 {
     let a_len = usize::from(a.len);
     let b_len = usize::from(b.len);
@@ -65,7 +66,8 @@ pub(crate) fn cut<'e, R: Source>(
     room: &[u8],
 ) -> TextPlace<'e>
     requires { IsTrue (is_text_inside (R.seen row.now) room.now text.now) }
-    ensures bytes { text_bytes (R.seen row.now) room.now result ≡ cut most (text_bytes (R.seen row.now) room.now text.now) }
+    ensures bytes { text_bytes (R.seen row.now) room.now result
+        ≡ cut most (text_bytes (R.seen row.now) room.now text.now) }
     ensures inside { IsTrue (is_text_inside (R.seen row.now) room.now result) }
     ensures held { held_by result.len result.origin ≤ held_by text.now.len text.now.origin }
 {

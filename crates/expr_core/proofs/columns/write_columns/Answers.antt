@@ -1,4 +1,4 @@
-use Rattle.std.proofs.Common.{◌≡◌, ◌≤◌, arith}
+use Rattle.std.proofs.Common.{arith}
 use Rattle.expr_core.proofs.ColumnLemmas.{column_written}
 use Rattle.expr_core.proofs.columns.write_columns.Goals as goal
 

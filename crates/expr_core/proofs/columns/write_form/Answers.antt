@@ -1,4 +1,3 @@
-use Rattle.std.proofs.Common.{◌≡◌, ◌≤◌, arith}
 use Rattle.expr_core.proofs.ColumnLemmas.{text_written}
 use Rattle.expr_core.proofs.columns.write_form.Goals as goal
 

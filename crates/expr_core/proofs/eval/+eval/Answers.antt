@@ -1,5 +1,4 @@
-use Rattle.std.proofs.Common.{◌≡◌, ◌≤◌, ◌<◌, length, ℕ, List, arith}
-use Rattle.flow_types.specs.Limits.{text_limit}
+use Rattle.std.proofs.Common.{length, arith}
 use Rattle.expr_core.proofs.ExprLemmas.{both_short, both_done, parts_right, parts_then, parts_else, typed_right, typed_then, typed_else, room_right, room_then, room_else}
 use Rattle.expr_core.proofs.SeenLemmas.{held_room}
 use Rattle.expr_core.proofs.eval.+eval.Goals as goal

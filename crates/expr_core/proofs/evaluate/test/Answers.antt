@@ -1,4 +1,4 @@
-use Rattle.std.proofs.Common.{◌≡◌, Bool, sym, ap, ◌∙◌}
+use Rattle.std.proofs.Common.{Bool, sym, ap, ◌∙◌}
 use Rattle.flow_types.specs.declared.value.Value.{Value}
 use Rattle.flow_types.specs.declared.value.Value.TheVariants as value
 use Rattle.flow_types.specs.declared.field_type.FieldType.TheVariants as type

@@ -1,4 +1,4 @@
-use Rattle.std.proofs.Common.{◌≡◌, ℕ, List, Option, Some, option_map, IfSome, map, sym, ap, ◌∙◌, subst}
+use Rattle.std.proofs.Common.{ℕ, List, Option, option_map, IfSome, map, sym, ap, ◌∙◌, subst}
 use Rattle.flow_types.specs.Records.{form, tuple_of, IsRecord}
 use Rattle.flow_types.specs.Expressions.{val}
 use Rattle.flow_types.proofs.ColumnLaws.{fits-append}

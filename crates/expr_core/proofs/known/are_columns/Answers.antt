@@ -1,4 +1,4 @@
-use Rattle.std.proofs.Common.{◌≡◌, ◌≤◌, ◌<◌, arith}
+use Rattle.std.proofs.Common.{arith}
 use Rattle.expr_core.proofs.ColumnLemmas.{checked_more}
 use Rattle.expr_core.proofs.known.are_columns.Goals as goal
 

@@ -1,4 +1,4 @@
-use Rattle.std.proofs.Common.{◌≡◌, ℕ, drop, ap, ◌∙◌}
+use Rattle.std.proofs.Common.{ℕ, drop, ap, ◌∙◌}
 use Rattle.expr_core.specs.Places.{text_bytes, held_by}
 use Rattle.expr_core.proofs.SeenLemmas.{cat_joined}
 use Rattle.expr_core.proofs.operation.cat.Goals as goal

@@ -1,6 +1,5 @@
-use Rattle.std.proofs.Common.{◌≡◌, ℕ, List, ◌≤◌, ◌<◌, length, slice_index_or, sym, ◌∙◌, ap, arith}
+use Rattle.std.proofs.Common.{length, slice_index_or, sym, ◌∙◌, ap, arith}
 use Rattle.flow_types.specs.declared.field_type.FieldType.TheVariants as type
-use Rattle.flow_types.specs.declared.field_type.FieldType.{FieldType}
 use Rattle.flow_types.specs.Records.{tuple_of}
 use Rattle.record_codec.proofs.RecordLemmas.{record_small}
 use Rattle.expr_core.proofs.FieldLemmas.{length-tuple_of, field-past, field_value}

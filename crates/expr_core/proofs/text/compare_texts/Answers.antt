@@ -1,5 +1,4 @@
-use Rattle.std.proofs.Common.{◌≡◌, ◌≤◌, ◌+◌, ℕ, List, length, sym, ◌∙◌, ap, inl, inr, arith, take}
-use Rattle.std.specs.Ordering.{nat_cmp}
+use Rattle.std.proofs.Common.{ℕ, List, sym, ◌∙◌, inl, inr, arith}
 use Rattle.expr_core.specs.Places.{text_bytes, origin_bytes}
 use Rattle.expr_core.proofs.TextLemmas.{compare_more, compare_found, compare_done, text_len}
 use Rattle.expr_core.proofs.text.compare_texts.Goals as goal

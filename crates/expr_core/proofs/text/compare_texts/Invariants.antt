@@ -1,4 +1,4 @@
-use Rattle.std.proofs.Common.{◌-◌, ◌≡◌, ℕ, List, ◌≤◌, length, take, drop}
+use Rattle.std.proofs.Common.{◌-◌, ◌≡◌, ℕ, List, ◌≤◌, drop}
 use Rattle.std.specs.Cmp.Lexicographic.{slice_cmp}
 use Rattle.std.specs.Ordering.{nat_cmp}
 use Rattle.expr_core.specs.Places.{text_bytes}

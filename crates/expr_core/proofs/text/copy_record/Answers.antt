@@ -1,4 +1,4 @@
-use Rattle.std.proofs.Common.{◌≡◌, ◌≤◌, ◌-◌, length, arith}
+use Rattle.std.proofs.Common.{arith}
 use Rattle.expr_core.proofs.TextLemmas.{copied_more}
 use Rattle.expr_core.proofs.text.copy_record.Goals as goal
 

@@ -1,4 +1,4 @@
-use Rattle.std.proofs.Common.{◌-◌, ◌≡◌, ℕ, List, drop}
+use Rattle.std.proofs.Common.{◌-◌, drop}
 use Rattle.expr_core.proofs.TextLemmas.{Copied}
 use Rattle.expr_core.proofs.text.copy_record.Given as goal
 

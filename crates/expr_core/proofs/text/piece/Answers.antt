@@ -1,4 +1,4 @@
-use Rattle.std.proofs.Common.{◌≡◌, ℕ, ◌+◌, ◌-◌, ◌≤◌, List, length, take, drop, sym, ◌∙◌, ap, arith}
+use Rattle.std.proofs.Common.{ℕ, ◌+◌, ◌-◌, List, length, take, drop, sym, ◌∙◌, ap, arith}
 use Rattle.expr_core.specs.declared.seen.Origin.{Origin}
 use Rattle.expr_core.specs.Places.{origin_bytes}
 use Rattle.expr_core.proofs.TextLemmas.{piece_of, piece_at}

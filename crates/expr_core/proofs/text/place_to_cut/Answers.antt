@@ -1,6 +1,6 @@
-use Rattle.std.proofs.Common.{◌≡◌, ℕ, ◌<◌, ◌∙◌, ap, sym, take, drop, length, arith}
+use Rattle.std.proofs.Common.{ℕ, ◌∙◌, ap, sym, take, drop, length, arith}
 use Rattle.expr_core.specs.Places.{text_bytes}
-use Rattle.expr_core.proofs.TextLemmas.{cut_stops, cut_goes}
+use Rattle.expr_core.proofs.TextLemmas.{cut_stops}
 use Rattle.expr_core.proofs.text.place_to_cut.Goals as goal
 
 pub returns-else-goes_on-clause-place : goal.returns-else-goes_on-clause-place

@@ -1,4 +1,4 @@
-use Rattle.std.proofs.Common.{◌≡◌, ℕ, List, ◌+◌, ◌-◌, ◌≤◌, ◌<◌, ◌++◌, length, sym, ◌∙◌, ap, arith}
+use Rattle.std.proofs.Common.{◌≡◌, ℕ, List, ◌+◌, ◌-◌, ◌++◌, length, sym, ◌∙◌, ap, arith}
 use Rattle.flow_types.specs.Tuples.{Tuple, field}
 use Rattle.flow_types.specs.Records.{tuple_of}
 use Rattle.record_codec.proofs.RecordLemmas.{record_small}
