@@ -1,0 +1,6 @@
+pub mod Numbers
+pub mod FieldLemmas
+pub mod SeenLemmas
+pub mod TextLemmas
+pub mod ExprLemmas
+pub mod ColumnLemmas

@@ -1,0 +1,5 @@
+pub mod Places
+pub mod Needs
+pub mod Joined
+pub mod Laws
+pub mod Known
