@@ -2,3 +2,5 @@ pub mod Places
 pub mod Numbering
 pub mod Checking
 pub mod Trees
+pub mod Steps
+pub mod Walks
