@@ -1,15 +1,15 @@
 -- How the check goes on from node to node.
-use Rattle.std.proofs.Common.{◌≡◌, ℕ, zero, suc, ◌<◌, ◌+◌, Bool, true, false, ◌==◌, if◌then◌else◌, List, [], ◌∷◌, ◌++◌, length, slice_get, Option, Some, None, Result, Ok, Err, refl, ap, sym, ◌∙◌, arith, length-append}
+use Rattle.std.proofs.Common.{◌≡◌, ℕ, zero, suc, ◌<◌, ◌+◌, Bool, true, false, ◌==◌, if◌then◌else◌, List, [], ◌∷◌, ◌++◌, length, slice_get, Option, Some, None, Result, Ok, Err, refl, ap, sym, ◌∙◌, arith}
 use Rattle.flow_model.specs.declared.plan.Node.{Node}
 use Rattle.flow_model.specs.Rules.{is_iteration}
 use Rattle.plan_text.specs.declared.tree.TreeNode.{TreeNode}
 use Rattle.plan_text.specs.declared.fault.PlanFault.{PlanFault}
-use Rattle.plan_text.specs.declared.fault.PlanFault.TheVariants as fault
-use Rattle.plan_text.specs.Told.{Tells, IsFault}
+use Rattle.plan_text.specs.Told.{IsFault}
+use Rattle.plan_text.proofs.NodeLemmas.{IsFault-on}
 use Rattle.plan_check.specs.Places.{Place}
 use Rattle.plan_check.specs.Numbering.{bare_node}
-use Rattle.plan_check.specs.Checking.{◌>>then◌, checked_node, told_at, closed_before, opened, checked_nodes}
-use Rattle.plan_check.specs.Walks.{Walked, added, taken, walked, walked_on, opened_at, node_of, IsWithin, Stands}
+use Rattle.plan_check.specs.Checking.{◌>>then◌, checked_node, told_at, closed_before, opened}
+use Rattle.plan_check.specs.Walks.{Walked, added, taken, walked, walked_on, opened_at, node_of, IsWithin}
 
 -- three checks one after the other
 then_then : {A B C E : Type 0} (r : Result A E) (f : A → Result B E) (g : B → Result C E) → ((r >>then f) >>then g) ≡ (r >>then λ x. f x >>then g)
@@ -23,11 +23,6 @@ walked_more ps w t ts =
     let rest : Node → Result (List Node) PlanFault = λ node. walked_on ps ts (added w node) in
     sym (then_then (closed_before w.done w.current t) (λ _. taken ps w t) (walked_on ps ts)
     ∙ ap (λ (r : Result (List Node) PlanFault). closed_before w.done w.current t >>then λ _. r) (then_then told (λ node. Ok (added w node)) (walked_on ps ts)))
-
--- a fault that is handed on
-pub IsFault-on : {A B : Type 0} (f : PlanFault) (given : Result A PlanFault) (r : Result B PlanFault) → IsFault f given → (given ≡ Err f → r ≡ Err f) → IsFault f r
-IsFault-on fault.Memory given r h k = tt
-IsFault-on (fault.Refused node code) given r h k = k h
 
 pub walk_on : (ps : List Place) (w later : Walked) (t : TreeNode) (ns ts : List TreeNode) (all : Result (List Node) PlanFault)
     → ns ≡ t ∷ ts → all ≡ walked_on ps ns w → walked ps w t ≡ Ok later → all ≡ walked_on ps ts later

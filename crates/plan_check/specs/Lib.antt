@@ -4,3 +4,4 @@ pub mod Checking
 pub mod Trees
 pub mod Steps
 pub mod Walks
+pub mod Shapes

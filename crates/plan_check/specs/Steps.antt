@@ -1,4 +1,4 @@
-use Rattle.std.specs.Prelude.{ℕ, Bool, not, if◌then◌else◌, List, Option, Some, None, Result, Ok, Err}
+use Rattle.std.specs.Prelude.{not, if◌then◌else◌, List, Option, Some, None, Result, Ok, Err}
 use Rattle.flow_model.specs.declared.plan.Node.{Node}
 use Rattle.flow_model.specs.declared.plan_code.PlanCode.{PlanCode}
 use Rattle.flow_model.specs.declared.plan_code.PlanCode.TheVariants as code

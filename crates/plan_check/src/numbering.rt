@@ -1,6 +1,8 @@
-ghost use Rattle.std.specs.Prelude.{◌≡◌, IfOk, map, option_map};
+ghost use Rattle.std.specs.Prelude.{◌≡◌, true, IfOk, map, option_map};
 ghost use Rattle.plan_check.specs.Places.{is_seen_at, is_seen_at_end, number_of};
 ghost use Rattle.plan_check.specs.Numbering.{numbered, bare_node};
+ghost use Rattle.plan_check.specs.Shapes.{is_by_row, is_by_key, is_pair};
+ghost use Rattle.plan_check.specs.Trees.{has_bind};
 
 use crate::names::Names;
 use flow_model::op::{NumberList, Op};
@@ -65,8 +67,29 @@ pub fn bare_node(alloc: Global, names: &Names, node: TreeNode) -> Result<BareNod
 fn numbered(alloc: Global, names: &Names, number: u32, home: u32, op: TreeOp) -> Result<Op, Memory>
     ensures { IfOk result (λ made. made ≡ numbered (number_of names.now (is_seen_at number home)) (number_of names.now (is_seen_at_end number)) op) }
 {
-    Ok(match op {
-        TreeOp::Source { fields, delimiter } => Op::Source { fields, delimiter },
+    match op {
+        TreeOp::Source { fields, delimiter } => Ok(Op::Source { fields, delimiter }),
+        TreeOp::Union { inputs } => numbered_union(alloc, names, number, home, &inputs),
+        TreeOp::Map { .. }
+        | TreeOp::Filter { .. }
+        | TreeOp::FlatMap { .. }
+        | TreeOp::Probe { .. } => Ok(numbered_by_row(names, number, home, op)),
+        TreeOp::Distinct { .. } | TreeOp::Group { .. } | TreeOp::Top { .. } => {
+            Ok(numbered_by_key(names, number, home, op))
+        }
+        TreeOp::Join { .. } | TreeOp::Cogroup { .. } => Ok(numbered_pair(names, number, home, op)),
+        TreeOp::Bulk { .. } | TreeOp::Delta { .. } => {
+            Ok(numbered_iteration(names, number, home, op))
+        }
+    }
+}
+
+/// The same of an op that takes the rows of its input one by one.
+fn numbered_by_row(names: &Names, number: u32, home: u32, op: TreeOp) -> Op
+    requires { is_by_row op ≡ true }
+    ensures { result ≡ numbered (number_of names.now (is_seen_at number home)) (number_of names.now (is_seen_at_end number)) op }
+{
+    match op {
         TreeOp::Map { input, columns } => Op::Map {
             input: names.number_at(number, home, &input),
             columns,
@@ -79,9 +102,25 @@ fn numbered(alloc: Global, names: &Names, number: u32, home: u32, op: TreeOp) ->
             input: names.number_at(number, home, &input),
             rows,
         },
-        TreeOp::Union { inputs } => Op::Union {
-            inputs: numbers_at(alloc, names, number, home, &inputs)?,
+        TreeOp::Probe {
+            input,
+            key,
+            columns,
+        } => Op::Probe {
+            input: names.number_at(number, home, &input),
+            key,
+            columns,
         },
+        _ => unreachable!(),
+    }
+}
+
+/// The same of an op on the rows of each key, or on rows that are alike.
+fn numbered_by_key(names: &Names, number: u32, home: u32, op: TreeOp) -> Op
+    requires { is_by_key op ≡ true }
+    ensures { result ≡ numbered (number_of names.now (is_seen_at number home)) (number_of names.now (is_seen_at_end number)) op }
+{
+    match op {
         TreeOp::Distinct { input } => Op::Distinct {
             input: names.number_at(number, home, &input),
         },
@@ -107,6 +146,16 @@ fn numbered(alloc: Global, names: &Names, number: u32, home: u32, op: TreeOp) ->
             order,
             count,
         },
+        _ => unreachable!(),
+    }
+}
+
+/// The same of an op that brings the rows of two sides together.
+fn numbered_pair(names: &Names, number: u32, home: u32, op: TreeOp) -> Op
+    requires { is_pair op ≡ true }
+    ensures { result ≡ numbered (number_of names.now (is_seen_at number home)) (number_of names.now (is_seen_at_end number)) op }
+{
+    match op {
         TreeOp::Join {
             left,
             right,
@@ -141,6 +190,16 @@ fn numbered(alloc: Global, names: &Names, number: u32, home: u32, op: TreeOp) ->
             left_aggs,
             right_aggs,
         },
+        _ => unreachable!(),
+    }
+}
+
+/// The same of an op with a body.
+fn numbered_iteration(names: &Names, number: u32, home: u32, op: TreeOp) -> Op
+    requires { has_bind op ≡ true }
+    ensures { result ≡ numbered (number_of names.now (is_seen_at number home)) (number_of names.now (is_seen_at_end number)) op }
+{
+    match op {
         TreeOp::Bulk {
             init,
             bind,
@@ -175,16 +234,8 @@ fn numbered(alloc: Global, names: &Names, number: u32, home: u32, op: TreeOp) ->
             delta: names.number_at_end(number, &delta),
             next: names.number_at_end(number, &next),
         },
-        TreeOp::Probe {
-            input,
-            key,
-            columns,
-        } => Op::Probe {
-            input: names.number_at(number, home, &input),
-            key,
-            columns,
-        },
-    })
+        _ => unreachable!(),
+    }
 }
 
 /// The number at the end of an iteration's body of a name that may be absent.
@@ -195,6 +246,20 @@ fn optional_at_end(names: &Names, iteration: u32, name: Option<Name>) -> Option<
         None => None,
         Some(name) => Some(names.number_at_end(iteration, &name)),
     }
+}
+
+/// The same of a union of these names.
+fn numbered_union(
+    alloc: Global,
+    names: &Names,
+    number: u32,
+    home: u32,
+    inputs: &NameList,
+) -> Result<Op, Memory>
+    ensures { IfOk result (λ made. made ≡ Op.Union (map (number_of names.now (is_seen_at number home)) inputs.now)) }
+{
+    let inputs = numbers_at(alloc, names, number, home, inputs)?;
+    Ok(Op::Union { inputs })
 }
 
 /// The numbers of the names that a union names.

@@ -12,10 +12,12 @@ const SOURCE: &str = r#"{"name":"t","op":"source","fields":["long","long","str:4
 const BULK: &str = r#"{"name":"b","op":"bulk","init":"t","bind":"s","max":3,"body":["#;
 
 /// The head of a delta iteration, up to its body's nodes, that `#` stands for.
-const DELTA: &str = r##"{"name":"d","op":"delta","solution":"t","workset":"t","bind":"w","key":[0],"order":[[1,"desc"]],"merge":"greatest","max":100,"body":["##;
+const DELTA: &str =
+    r##"{"name":"d","op":"delta","solution":"t","workset":"t","bind":"w","key":[0],"order":[[1,"desc"]],"merge":"greatest","max":100,"body":["##;
 
 /// The sixteen folds that `*` stands for.
-const FOLDS: &str = r#"["count"],["count"],["count"],["count"],["count"],["count"],["count"],["count"],["count"],["count"],["count"],["count"],["count"],["count"],["count"],["count"]"#;
+const FOLDS: &str =
+    r#"["count"],["count"],["count"],["count"],["count"],["count"],["count"],["count"],["count"],["count"],["count"],["count"],["count"],["count"],["count"],["count"]"#;
 
 /// The nodes after the source, and what comes of them: how many nodes there are, the bytes of the widest
 /// record and the last node's fields; or the fault.
@@ -174,7 +176,8 @@ fn plans_are_checked_or_refused(rt: HostRuntime) -> Result<(), Fail> {
     }
     for line in RESULTS.lines() {
         let (name, want) = line.split_once(" => ").ok_or("no answer")?;
-        let nodes = r#"$,@{"name":"a","op":"distinct","input":"s"}],"next":"a"},{"name":"z","op":"map","input":"b","columns":[["f",2]]}"#;
+        let nodes =
+            r#"$,@{"name":"a","op":"distinct","input":"s"}],"next":"a"},{"name":"z","op":"map","input":"b","columns":[["f",2]]}"#;
         let plan = plan_of(alloc, nodes, name)?;
         let found = answer(alloc, plan.as_str())?;
         assert_eq!(rt; found.as_str(), want, "{plan}");
