@@ -1,8 +1,10 @@
 pub mod Binds
 pub mod Fitting
+pub mod Follow
 pub mod Formed
 pub mod Keeps
 pub mod Named
+pub mod NodeLemmas
 pub mod Numbers
 pub mod Plans
 pub mod Readings
@@ -10,4 +12,4 @@ pub mod References
 pub mod Single
 pub mod Stands
 pub mod Trees
-pub mod Walk
+pub mod WalkLemmas
