@@ -1,5 +1,6 @@
 -- A plan that was checked keeps the rules of plans.
-use Rattle.std.proofs.Common.{◌≡◌, ℕ, ◌<◌, Bool, true, false, cond, ◌==◌, List, [], ◌∷◌, ◌++◌, length, refl, sym, ap, ◌∙◌, subst, arith, suc, None, Ok, Err}
+use Rattle.std.proofs.Common.{◌≡◌, ℕ, ◌<◌, Bool, true, false, cond, ◌==◌, List, [], ◌∷◌, ◌++◌, length, refl, sym, ap, ◌∙◌, subst, arith, suc, None, Result, Ok, Err}
+use Rattle.std.specs.Prelude.{IfOk}
 use Rattle.std.proofs.lemmas.List.Elements.{All-nil, All-weaker}
 use Rattle.flow_types.specs.Types.{is_schema}
 use Rattle.flow_model.specs.declared.plan.Node.{Node}
@@ -9,6 +10,8 @@ use Rattle.flow_model.specs.Rules.{is_from, is_numbered, is_node, node_holds, ho
 use Rattle.plan_text.specs.declared.tree.TreeNode.{TreeNode}
 use Rattle.plan_text.specs.declared.tree.PlanTree.{PlanTree}
 use Rattle.plan_text.specs.declared.fault.PlanFault.TheVariants as fault
+use Rattle.plan_text.specs.declared.fault.PlanFault.{PlanFault}
+use Rattle.plan_text.specs.Told.{Tells}
 use Rattle.plan_check.specs.Places.{Place, places, is_outer, number_of}
 use Rattle.plan_check.specs.Checking.{checked_nodes, plan_of_nodes, checked}
 use Rattle.plan_check.specs.Trees.{IsTree}
@@ -70,3 +73,13 @@ keeps_rules t plan is h =
     let nodes = then_ok (checked_nodes (places t.nodes) [] None t.nodes) (λ nodes. plan_of_nodes t.segment (number_of (places t.nodes) is_outer t.result) nodes) plan h in
     let parts = plan_parts t.segment (number_of (places t.nodes) is_outer t.result) nodes.0 plan nodes.1.1 in
     subst IsPlan (sym parts.1) (checked_keeps t nodes.0 is nodes.1.0 parts.0)
+
+-- a plan that the definition gives of a tree keeps the rules, where reading left the tree
+pub rules_told : (r : Result Plan PlanFault) (t : PlanTree) → Tells r (checked t) → IfOk r (λ plan. IsTree t → IsPlan plan)
+rules_told (Ok plan) t e = λ is. keeps_rules t plan is e
+rules_told (Err f) t e = tt
+
+-- and reading left it
+pub rules_read : (r : Result Plan PlanFault) (t : PlanTree) → IsTree t → IfOk r (λ plan. IsTree t → IsPlan plan) → IfOk r IsPlan
+rules_read (Ok plan) t is h = h is
+rules_read (Err f) t is h = tt

@@ -1,6 +1,8 @@
-ghost use Rattle.std.specs.Prelude.{◌≡◌, ◌∷◌, [], MatchOption};
+ghost use Rattle.std.specs.Prelude.{◌≡◌, ◌∷◌, [], IfOk, MatchOption};
+ghost use Rattle.flow_model.specs.Rules.{IsPlan};
 ghost use Rattle.plan_text.specs.Told.{Tells};
 ghost use Rattle.plan_check.specs.Checking.{checked, accepted, plan_of_nodes};
+ghost use Rattle.plan_check.specs.Trees.{IsTree};
 ghost use Rattle.plan_check.specs.Walks.{unwalked, walked_on};
 
 use crate::names::Names;
@@ -14,9 +16,10 @@ use plan_text::tree::{PlanTree, TreeList, TreeNode};
 use std::alloc::Global;
 
 /// The plan of a plan's bytes, or its first fault: reading's, then the check's, as `accepted` has it.
-/// After want of memory nothing is known.
+/// The plan keeps the rules of plans. After want of memory nothing is known.
 pub fn plan_from(alloc: Global, bytes: &[u8]) -> Result<Plan, PlanFault>
-    ensures { Tells result (accepted bytes.now) }
+    ensures tells { Tells result (accepted bytes.now) }
+    ensures keeps { IfOk result IsPlan }
 {
     match read_plan(alloc, bytes) {
         Ok(tree) => check(alloc, tree),
@@ -26,13 +29,21 @@ pub fn plan_from(alloc: Global, bytes: &[u8]) -> Result<Plan, PlanFault>
 
 /// The plan of a tree, or the first fault of its check, as `checked` has it. The first node with a
 /// fault is named, and of its faults the first in the order of the codes; an iteration's end comes
-/// after its body, under the iteration's number, and the result comes last. After want of memory
-/// nothing is known; a tree that reading doesn't leave, where a name stands for a number that no node
+/// after its body, under the iteration's number, and the result comes last. The plan of a tree that reading
+/// left keeps the rules of plans. After want of memory nothing is known; a tree that reading doesn't leave, where a name stands for a number that no node
 /// before has, is answered in this way too.
 ///
 /// The codes and their order are this project's own. Each name is copied once, each schema once for
 /// each node that takes it; expressions and keys are moved.
 pub fn check(alloc: Global, tree: PlanTree) -> Result<Plan, PlanFault>
+    ensures tells { Tells result (checked tree) }
+    ensures keeps { IfOk result (λ plan. IsTree tree → IsPlan plan) }
+{
+    walk_tree(alloc, tree)
+}
+
+/// The plan of a tree, or the first fault of its check: its nodes in document order, and then its result.
+fn walk_tree(alloc: Global, tree: PlanTree) -> Result<Plan, PlanFault>
     ensures { Tells result (checked tree) }
 {
     let PlanTree {
