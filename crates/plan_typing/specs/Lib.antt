@@ -1,1 +1,4 @@
 pub mod Typing
+pub mod Told
+pub mod Ops
+pub mod Sides

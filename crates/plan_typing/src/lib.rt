@@ -4,3 +4,15 @@
 //! Its one promise: `type_op` gives that schema, or exactly the first of the codes `BadField`,
 //! `BadTypes` and `BadWidth` that refuses the op.
 #![tactic(auto)]
+
+mod columns;
+mod expr_type;
+pub mod fit;
+mod keys;
+mod op_types;
+pub mod ops;
+mod schemas;
+#[cfg(test)]
+mod tests;
+mod widen;
+mod within;
