@@ -3,6 +3,7 @@ pub mod Fitting
 pub mod Formed
 pub mod Keeps
 pub mod Named
+pub mod NodeLemmas
 pub mod Numbers
 pub mod Plans
 pub mod Readings
@@ -11,3 +12,4 @@ pub mod Single
 pub mod Stands
 pub mod Trees
 pub mod Walk
+pub mod WalkLemmas

@@ -11,6 +11,7 @@ use Rattle.plan_text.specs.declared.tree.TreeNode.{TreeNode}
 use Rattle.plan_text.specs.declared.tree.PlanTree.{PlanTree}
 use Rattle.plan_text.specs.declared.fault.PlanFault.{PlanFault}
 use Rattle.plan_text.specs.declared.fault.PlanFault.TheVariants as fault
+use Rattle.plan_text.specs.Plans.{plan_of}
 use Rattle.plan_typing.specs.Typing.{typed_op}
 use Rattle.plan_check.specs.Places.{Place, places, is_outer, number_of, stands_before}
 use Rattle.plan_check.specs.Numbering.{bare_node}
@@ -106,3 +107,7 @@ abbrev pub checked : PlanTree → Result Plan PlanFault
 checked t =
     checked_nodes (places t.nodes) [] None t.nodes >>then λ nodes.
     plan_of_nodes t.segment (number_of (places t.nodes) is_outer t.result) nodes
+
+-- The plan of a plan's bytes, or its first fault: reading's, then the check's.
+abbrev pub accepted : List ℕ → Result Plan PlanFault
+accepted bytes = plan_of bytes >>then checked

@@ -2,3 +2,6 @@ pub mod Places
 pub mod Numbering
 pub mod Checking
 pub mod Trees
+pub mod Steps
+pub mod Walks
+pub mod Shapes

@@ -3,3 +3,13 @@
 //!
 //! Its one promise: `check` gives the plan of a tree, or exactly its first fault.
 #![tactic(auto)]
+
+pub mod check;
+mod names;
+mod node;
+mod numbering;
+mod ops;
+mod schemas;
+#[cfg(test)]
+mod tests;
+mod walk;
