@@ -22,7 +22,7 @@ use Rattle.plan_typing.specs.Typing.{has_fields, has_types, in_width, in_fields,
 use Rattle.plan_check.specs.Places.{Place, is_seen_at, is_seen_at_end, number_of}
 use Rattle.plan_check.specs.Numbering.{numbered}
 use Rattle.plan_check.specs.Trees.{is_formed, unnumbered}
-use Rattle.plan_check.proofs.Walk.{IsOf, IsClosed}
+use Rattle.plan_check.proofs.Follow.{IsOf, IsClosed}
 use Rattle.plan_check.proofs.Stands.{Stands}
 use Rattle.plan_check.proofs.Numbers.{equal_numbers, below_number, body_placed}
 use Rattle.plan_check.proofs.Fitting.{end_seen, no_end, outer_schema, fitting_stays}

@@ -1,5 +1,6 @@
 pub mod Binds
 pub mod Fitting
+pub mod Follow
 pub mod Formed
 pub mod Keeps
 pub mod Named
@@ -11,5 +12,4 @@ pub mod References
 pub mod Single
 pub mod Stands
 pub mod Trees
-pub mod Walk
 pub mod WalkLemmas

@@ -9,7 +9,7 @@ use Rattle.flow_model.specs.Rules.{is_iteration, is_numbered, node_at, is_node, 
 use Rattle.plan_text.specs.declared.tree.TreeNode.{TreeNode}
 use Rattle.plan_check.specs.Places.{Place, binds_of, places_of, places, place_at, is_seen_at, is_seen_at_end}
 use Rattle.plan_check.specs.Trees.{has_bind}
-use Rattle.plan_check.proofs.Walk.{IsOf, Passed, Follows}
+use Rattle.plan_check.proofs.Follow.{IsOf, Passed, Follows}
 use Rattle.plan_check.proofs.Numbers.{equal_numbers, at_number, iterates, body_placed}
 
 -- how a name's place shows a node: by its own name, or an iteration of the outer list by its bind name

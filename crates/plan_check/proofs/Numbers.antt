@@ -13,7 +13,7 @@ use Rattle.plan_text.specs.declared.tree.TreeNode.{TreeNode}
 use Rattle.plan_check.specs.Places.{Place}
 use Rattle.plan_check.specs.Numbering.{numbered}
 use Rattle.plan_check.specs.Trees.{are_numbered, has_bind, open_behind, are_in_place}
-use Rattle.plan_check.proofs.Walk.{IsOf, Passed, Follows}
+use Rattle.plan_check.proofs.Follow.{IsOf, Passed, Follows}
 
 pub equal_numbers : (m n : ℕ) → (m == n) ≡ true → m ≡ n
 equal_numbers m n e = (Decides-eqb m n).0 e

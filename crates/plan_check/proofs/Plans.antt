@@ -12,7 +12,7 @@ use Rattle.plan_text.specs.declared.fault.PlanFault.TheVariants as fault
 use Rattle.plan_check.specs.Places.{Place, places, is_outer, number_of}
 use Rattle.plan_check.specs.Checking.{checked_nodes, plan_of_nodes, checked}
 use Rattle.plan_check.specs.Trees.{IsTree}
-use Rattle.plan_check.proofs.Walk.{Follows, walked, then_ok}
+use Rattle.plan_check.proofs.Follow.{Follows, walked, then_ok}
 use Rattle.plan_check.proofs.Numbers.{numbers_follow, homes_follow}
 use Rattle.plan_check.proofs.Named.{Shows, named, shown}
 use Rattle.plan_check.proofs.Stands.{Stands, all_stand}

@@ -15,7 +15,7 @@ use Rattle.plan_text.specs.declared.tree.TreeNode.{TreeNode}
 use Rattle.plan_check.specs.Places.{Place, binds_of, places_of, places, place_at, is_earlier, stands_before}
 use Rattle.plan_check.specs.Numbering.{numbered}
 use Rattle.plan_check.specs.Trees.{are_numbered}
-use Rattle.plan_check.proofs.Walk.{Follows}
+use Rattle.plan_check.proofs.Follow.{Follows}
 use Rattle.plan_check.proofs.Numbers.{equal_numbers}
 
 -- ---- bytes

@@ -7,7 +7,7 @@ use Rattle.flow_model.specs.declared.plan.Node.{Node}
 use Rattle.plan_text.specs.declared.tree.TreeNode.{TreeNode}
 use Rattle.plan_check.specs.Places.{Place}
 use Rattle.plan_check.specs.Trees.{are_numbered, has_bind, open_behind, are_in_place, is_formed, unnumbered}
-use Rattle.plan_check.proofs.Walk.{IsOf, Passed, EndsWell, Follows}
+use Rattle.plan_check.proofs.Follow.{IsOf, Passed, EndsWell, Follows}
 use Rattle.plan_check.proofs.Numbers.{equal_numbers}
 
 -- A checked node: the tree's node that it is, the nodes before and behind it, and what was seen.
