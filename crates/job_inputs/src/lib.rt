@@ -4,3 +4,10 @@
 //! Its one promise: each step gives what the files' contents say, or exactly the first fault, and a
 //! failed read only where the count of faults of its file rose.
 #![tactic(auto)]
+
+pub mod inputs;
+mod ops;
+pub mod plan;
+pub mod sources;
+#[cfg(test)]
+mod tests;
