@@ -4,7 +4,7 @@ ghost use Rattle.flow_types.specs.Tuples.{Tuple};
 ghost use Rattle.flow_model.specs.declared.plan.Node.{Node};
 ghost use Rattle.flow_model.specs.Algebra.{is_source};
 ghost use Rattle.job_words.specs.Requests.{all_bound};
-ghost use Rattle.job_inputs.specs.Sources.{binding_at, first_unbound, sources_of, unbound_name};
+ghost use Rattle.job_inputs.specs.Sources.{binding_at, first_unbound, sources_of};
 ghost use Rattle.job_inputs.specs.Inputs.{path_of, input_rows, HasRows, HaveRows};
 ghost use Rattle.job_inputs.specs.InputEnds.{EndsReadingInput, StopsReading, EndsReadingInputs};
 

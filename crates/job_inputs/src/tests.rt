@@ -82,8 +82,8 @@ fn inputs_text<S: Shelf>(
 ) -> Result<String, Fail>
     requires { S.living shelf.old < 80 }
 {
-    if let Some(name) = unbound_name(bindings, plan) {
-        return Ok(format!(in alloc; "unbound {name}")?);
+    if let Some(name) = unbound_name(alloc, bindings, plan)? {
+        return Ok(format!(in alloc; "unbound {}", name.as_str())?);
     }
     match read_inputs(alloc, shelf, bindings, plan) {
         Ok(inputs) => {
