@@ -1,3 +1,1 @@
-pub mod OutcomeLemmas
-pub mod PartLemmas
-pub mod CompletesLemmas
+pub mod Ends

@@ -1,5 +1,2 @@
-pub mod Words
-pub mod Request
-pub mod Lines
-pub mod Effects
 pub mod Outcome
+pub mod Stops

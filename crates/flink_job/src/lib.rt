@@ -1,17 +1,13 @@
-//! The top call of the program: from the words of the command line to the printed lines. It stands
-//! on everything below.
+//! The top calls of the two programs: from the words of the command line to the printed lines. It
+//! stands on everything below.
 //!
-//! Its one promise: `flink_main` ends as the relation `IsOutcome` says: status 0 has printed exactly
-//! the lines of the plan's result over its input, in tuple order, and each other status has its
-//! cause.
+//! Its one promise: `flink_main` and `plain_main` end as the relation `IsOutcome` says: status 0 has
+//! printed exactly the text that was asked for, for a run the lines of the plan's result over its inputs in
+//! tuple order, and each other status has its cause.
 #![tactic(auto)]
 
-pub mod fault;
-mod input;
-mod job;
-pub mod laws;
-mod plan;
+pub mod ended;
 mod print;
-mod report;
+mod run;
 pub mod top;
 mod words;

@@ -1,38 +1,63 @@
-ghost use Rattle.std.specs.Prelude.{◌≡◌, ◌≤◌, filter, slice_get, IfOk, Some};
-ghost use Rattle.first_plan.specs.FirstTest.{passes};
-ghost use Rattle.packed_rows.specs.Packed.{rows_in, IsPacked};
+ghost use Rattle.std.specs.Prelude.{◌≡◌, ◌≤◌, length, IfOk};
+ghost use Rattle.flow_types.specs.Bags.{ordered};
+ghost use Rattle.flow_model.specs.Algebra.{eval};
+ghost use Rattle.flow_model.specs.Segments.{widest_record, minimum};
+ghost use Rattle.flow_model.specs.Rules.{IsPlan};
 ghost use Rattle.delim_io.specs.ResultText.{text_of};
-ghost use Rattle.flink_job.specs.Outcome.{EndsPrinting};
+ghost use Rattle.job_report.specs.Lines.{check_text, need_text};
+ghost use Rattle.flink_job.specs.Stops.{EndsPrinting};
 
-use crate::fault::Fault;
 use delim_io::result_text::{WriteFault, write_rows};
-use first_plan::FieldTest;
+use flow_model::plan::Plan;
+use flow_model::rows::Inputs;
 use flow_outside::failure::Memory;
 use flow_outside::sink::Sink;
-use flow_types::field_type::FieldType;
 use flow_types::row::{Row, sort_rows};
-use flow_types::schema::Schema;
-use packed_rows::rows::PackedRows;
+use job_report::fault::Fault;
+use job_report::report::{write_check, write_need};
+use plain_eval::eval::eval_rows;
+use plan_need::need::{minimum, widest_record};
 use std::alloc::Global;
 
-/// Writes the text of the rows that pass a test, in tuple order; `None` where all was written.
-pub fn print_result<K: Sink>(
-    alloc: Global,
-    schema: &Schema,
-    rows: PackedRows,
-    test: FieldTest,
-    out: &mut K,
-) -> Option<Fault>
-    requires packed { IsPacked schema.now rows }
-    requires long { slice_get schema.now test.field ≡ Some FieldType.Long }
+/// Writes what is told of a plan that is accepted; `None` where all was written.
+pub fn print_check<K: Sink>(plan: &Plan, out: &mut K) -> Option<Fault>
     ensures later { K.fault_count out.old ≤ K.fault_count out.new }
-    ensures ends { EndsPrinting (text_of (filter (passes test) (rows_in schema.now rows)))
+    ensures ends { EndsPrinting (check_text (length plan.now.nodes) (widest_record plan.now))
         (K.told out.old) (K.told out.new) (K.fault_count out.old) (K.fault_count out.new) result }
 {
-    let Ok(mut rows) = passing_rows(alloc, schema, rows, test) else {
-        return Some(Fault::Memory);
-    };
-    let Ok(()) = sort_rows(&mut rows) else {
+    match write_check(out, plan.nodes.len(), widest_record(plan)) {
+        Ok(()) => None,
+        Err(_) => Some(Fault::WriteFault),
+    }
+}
+
+/// Writes how many segments a plan needs; `None` where all was written.
+pub fn print_need<K: Sink>(plan: &Plan, workers: u32, out: &mut K) -> Option<Fault>
+    requires plan { IsPlan plan.now }
+    requires least { 1 ≤ workers }
+    requires most { workers ≤ 32 }
+    ensures later { K.fault_count out.old ≤ K.fault_count out.new }
+    ensures ends { EndsPrinting (need_text (minimum plan.now workers))
+        (K.told out.old) (K.told out.new) (K.fault_count out.old) (K.fault_count out.new) result }
+{
+    match write_need(out, minimum(plan, workers)) {
+        Ok(()) => None,
+        Err(_) => Some(Fault::WriteFault),
+    }
+}
+
+/// Writes the text of a plan's result over its inputs, in tuple order; `None` where all was written.
+pub fn print_result<K: Sink>(
+    alloc: Global,
+    plan: &Plan,
+    inputs: &Inputs,
+    out: &mut K,
+) -> Option<Fault>
+    ensures later { K.fault_count out.old ≤ K.fault_count out.new }
+    ensures ends { EndsPrinting (text_of (eval plan.now inputs.now))
+        (K.told out.old) (K.told out.new) (K.fault_count out.old) (K.fault_count out.new) result }
+{
+    let Ok(rows) = sorted_result(alloc, plan, inputs) else {
         return Some(Fault::Memory);
     };
     match write_rows(alloc, rows.as_slice(), out) {
@@ -42,18 +67,13 @@ pub fn print_result<K: Sink>(
     }
 }
 
-/// The rows that pass a test, decoded. The others aren't: they are left out where the records lie, and
-/// these are let go before the rows are sorted.
-fn passing_rows(
-    alloc: Global,
-    schema: &Schema,
-    mut rows: PackedRows,
-    test: FieldTest,
-) -> Result<Vec<Row>, Memory>
-    requires packed { IsPacked schema.now rows }
-    requires long { slice_get schema.now test.field ≡ Some FieldType.Long }
-    ensures { IfOk result (λ kept. kept.items ≡ filter (passes test) (rows_in schema.now rows)) }
+/// The rows of a plan's result over its inputs, in tuple order.
+fn sorted_result(alloc: Global, plan: &Plan, inputs: &Inputs) -> Result<Vec<Row>, Memory>
+    ensures { IfOk result (λ rows. rows.items ≡ ordered (eval plan.now inputs.now)) }
 {
-    rows.keep_above(schema, usize::from(test.field), test.number);
-    rows.unpack(alloc, schema)
+    let mut rows = eval_rows(alloc, plan, inputs)?.into_vec();
+    match sort_rows(&mut rows) {
+        Ok(()) => Ok(rows),
+        Err(_) => Err(Memory),
+    }
 }

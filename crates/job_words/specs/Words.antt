@@ -130,9 +130,13 @@ pub record IsBudgetWithin (b : Budget) : Type 0 where
   pub few_workers : b.workers ≤ worker_limit
   pub few_segments : b.segments ≤ segment_limit
 
+-- The numbers of a budget are in their limits, where there is one.
+abbrev pub IsInLimits : Option Budget → Type 0
+IsInLimits None = Unit {0}
+IsInLimits (Some budget) = IsBudgetWithin budget
+
 -- The numbers of a task are in their limits.
 abbrev pub IsWithin : Task → Type 0
 IsWithin Task.check = Unit {0}
 IsWithin (Task.need workers) = (1 ≤ workers) × (workers ≤ worker_limit)
-IsWithin (Task.run None bindings) = Unit {0}
-IsWithin (Task.run (Some budget) bindings) = IsBudgetWithin budget
+IsWithin (Task.run budget bindings) = IsInLimits budget
