@@ -7,6 +7,7 @@
 #![tactic(auto)]
 
 pub mod ended;
+pub mod laws;
 mod print;
 mod run;
 pub mod top;
