@@ -103,8 +103,19 @@ fn other_words_and_inputs_are_refused(rt: HostRuntime) -> Result<(), Fail> {
     }
     for input in REFUSED.split(' ') {
         let files = format!(in rt.alloc(); "t:{input}")?;
-        let found = run_flink(&rt, rt.alloc(), "run longs 1 21 t=t", files.as_str(), 0, 1000)?;
-        assert_eq!(rt; found.as_str(), "4 ! input refused: t line 0 field 0: NotBuilt\n", "{input}");
+        let found = run_flink(
+            &rt,
+            rt.alloc(),
+            "run longs 1 21 t=t",
+            files.as_str(),
+            0,
+            1000,
+        )?;
+        assert_eq!(rt;
+            found.as_str(),
+            "4 ! input refused: t line 0 field 0: NotBuilt\n",
+            "{input}"
+        );
     }
     Ok(())
 }
@@ -148,11 +159,15 @@ fn a_text_may_fill_a_record(rt: HostRuntime) -> Result<(), Fail> {
 #[test]
 fn plans_have_their_sizes(rt: HostRuntime) -> Result<(), Fail> {
     let components = text_of("cc").ok_or("no plan")?;
-    let plan = plan_from(rt.alloc(), components.as_bytes()).ok().ok_or("refused")?;
+    let plan = plan_from(rt.alloc(), components.as_bytes())
+        .ok()
+        .ok_or("refused")?;
     assert_eq!(rt; plan.nodes.len(), 11);
     assert_eq!(rt; widest_record(&plan), 24);
     let pair = text_of("pair").ok_or("no plan")?;
-    let plan = plan_from(rt.alloc(), pair.as_bytes()).ok().ok_or("refused")?;
+    let plan = plan_from(rt.alloc(), pair.as_bytes())
+        .ok()
+        .ok_or("refused")?;
     assert_eq!(rt; minimum(&plan, 4), 92);
     Ok(())
 }
