@@ -69,6 +69,26 @@ outer
 {"name":"j","op":"join","left":"a","right":"b","left_key":[0],"right_key":[0],"kind":"full","left_default":[0,"-"],"right_default":[0,0],"columns":[["f",0],["f",1],["f",2],["f",3]]}
 ],"result":"j"}
 
+twice
+{"version":1,"segment":4096,"nodes":[
+{"name":"p","op":"source","fields":["long","long"]},
+{"name":"u","op":"union","inputs":["p","p"]}
+],"result":"u"}
+
+left
+{"version":1,"segment":4096,"nodes":[
+{"name":"a","op":"source","fields":["long","str:5"]},
+{"name":"b","op":"source","fields":["long","long"]},
+{"name":"j","op":"join","left":"a","right":"b","left_key":[0],"right_key":[0],"kind":"left","right_default":[0,0],"columns":[["f",1],["f",2],["f",3]]}
+],"result":"j"}
+
+right
+{"version":1,"segment":4096,"nodes":[
+{"name":"a","op":"source","fields":["long","str:5"]},
+{"name":"b","op":"source","fields":["long","long"]},
+{"name":"j","op":"join","left":"a","right":"b","left_key":[0],"right_key":[0],"kind":"right","left_default":[0,"-"],"columns":[["f",1],["f",2],["f",3]]}
+],"result":"j"}
+
 both
 {"version":1,"segment":4096,"nodes":[
 {"name":"a","op":"source","fields":["long","long"]},

@@ -53,6 +53,9 @@ cc edges=e < e:1,2/2,3/4,5/ => 0 1,1/2,1/3,1/4,4/5,4/
 loop x=x < x:1/ => 0 2/
 loop x=x < x:200/ => 0 210/
 outer a=a b=b < a:1,x/2,y/ b:2,7/3,8/ => 0 0,-,3,8/1,x,0,0/2,y,2,7/
+left a=a b=b < a:1,x/2,y/ b:2,7/3,8/ => 0 x,0,0/y,2,7/
+right a=a b=b < a:1,x/2,y/ b:2,7/3,8/ => 0 -,3,8/y,2,7/
+twice p=p < p:1,2/ => 0 1,2/1,2/
 both a=a b=b < a:1,10/1,20/2,5/ b:2,1/3,4/ => 0 1,30,0,-1/2,5,1,1/3,0,1,4/
 words t=t < t:a/a\0/abcdefghijklmnopq/a/abcdefghijklmnopr/ => 0 1,2/2,1/17,1/17,1/
 best t=t < t:1,5,d/1,5,b/1,5,c/1,5,a/ => 0 1,5,a/1,5,b/
