@@ -1,4 +1,4 @@
-//! The program: it makes the real files, outputs and disks, calls the top call and ends with its
+//! The program `flink_run`: it makes the real files, outputs and disks, calls the top call and ends with its
 //! status. It stands on the top call and on the outside's objects.
 //!
 //! Its one promise is the top call's.
@@ -8,16 +8,14 @@ ghost use Rattle.std.specs.Prelude.{◌≡◌, IfOk, vec_len};
 
 use flink_job::top::{Outcome, flink_main};
 use flow_outside::failure::Memory;
-use flow_outside::words::Words;
+use outside_host::command_line::words_of;
 use outside_host::file_shelf::FileShelf;
 use outside_host::stderr_sink::StderrSink;
 use outside_host::stdout_sink::StdoutSink;
 use outside_memory::no_gate::NoGate;
 use outside_memory::zero_spill::ZeroSpill;
 use std::alloc::Global;
-use std::env;
 use std::process::ExitCode;
-use std::rt::Env;
 
 /// The most disks of a run.
 const DISKS: usize = 32;
@@ -41,18 +39,6 @@ fn main(rt: HostRuntime) -> ExitCode {
         &rt, alloc, &words, &mut shelf, &mut out, &mut err, disks, &NoGate,
     );
     ExitCode::from(status)
-}
-
-/// The words after the program's name; none where one isn't text, which no form takes.
-fn words_of<R: Env + AllocGlobal>(rt: &R, alloc: Global) -> Result<Words, Memory> {
-    let mut words = Words::new(alloc);
-    let Ok(arguments) = env::args(rt) else {
-        return Ok(words);
-    };
-    for word in arguments.skip(1) {
-        words.push(word.as_str())?;
-    }
-    Ok(words)
 }
 
 /// The disks of a run. Nothing is spilled yet.
