@@ -1,1 +1,3 @@
 pub mod Spilling
+pub mod Lots
+pub mod Keeping

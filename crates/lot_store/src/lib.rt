@@ -5,5 +5,6 @@
 //! segment that went in stands in the lot or in the purse, whatever a call answers.
 #![tactic(auto)]
 
+pub mod lot;
 mod page;
 mod spill;

@@ -1,4 +1,4 @@
-ghost use Rattle.std.specs.Prelude.{◌≡◌, ◌+◌, ◌-◌, ◌^◌, ◌<◌, ◌≤◌, [], ◌++◌, min, length, take};
+ghost use Rattle.std.specs.Prelude.{◌≡◌, ◌+◌, ◌-◌, ◌^◌, ◌<◌, ◌≤◌, ◌↔◌, [], ◌++◌, min, length, take, IsTrue};
 ghost use Rattle.paged_view.specs.Pages.{body, part, used};
 ghost use Rattle.paged_view.specs.Writing.{written};
 ghost use Rattle.spool.specs.Headers.{IsSameSegment};
@@ -63,4 +63,12 @@ fn set_used(page: &mut Segment, count: usize)
 {
     let _len = page.bytes().len();
     write_at(page, 0, &(count as u32).to_be_bytes());
+}
+
+/// Whether the page has room for another byte.
+pub(crate) fn has_space(page: &Segment) -> bool
+    requires { used page.now ≤ length (body page.now) }
+    ensures { IsTrue result ↔ (used page.now < length (body page.now)) }
+{
+    used_bytes(page).len() < body_of(page).len()
 }

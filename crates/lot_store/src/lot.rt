@@ -1,0 +1,166 @@
+ghost use Rattle.std.specs.Prelude.{◌≡◌, ℕ, ◌+◌, ◌^◌, ◌<◌, ◌≤◌, [], ◌∷◌, ◌++◌, None, IfOk, OnOk, OnErr, IsTrue, length, take};
+ghost use Rattle.flow_outside.specs.Blocks.{BothTold};
+ghost use Rattle.flow_outside.specs.Told.{IfTold};
+ghost use Rattle.flow_types.specs.Records.{framed};
+ghost use Rattle.lot_store.specs.Keeping.{AddsText, Keeps, MovesSegments};
+ghost use Rattle.lot_store.specs.Lots.{IsSound, held, text};
+ghost use Rattle.lot_store.specs.Spilling.{HasWriteCause, IsLonger, IsSpilled, IsUnchanged};
+ghost use Rattle.paged_view.specs.Pages.{body, part, used};
+ghost use Rattle.segment_core.specs.Segments.{weigh};
+ghost use Rattle.spool.specs.Headers.{IsSameSegment};
+
+use crate::page::{add_bytes, clear, has_space};
+use crate::spill::spill;
+use flow_outside::failure::{Memory, StreamFault};
+use flow_outside::spill::Spill;
+use flow_types::span::Span;
+use segment_core::{Purse, Segment};
+use spool::writer::RunWriter;
+use std::alloc::Global;
+use std::marker::Model;
+
+/// One worker's part of a dataset: pages of framed records, the first ones in segments and the others
+/// spilled. It may not be let go: `drop_lot` empties it, and `end` ends it.
+pub struct Lot {
+    kept: Vec<Segment>,
+    room: u32,
+    reach: u32,
+    run: Option<RunWriter>,
+    last: Vec<Segment>,
+}
+
+impl Model for Lot {
+    ghost use Rattle.std.specs.Prelude.{vec_len, vec_capacity};
+    ghost use Rattle.lot_store.specs.Lots.{Stored, IsLot};
+
+    ghost Value = { Stored };
+
+    ghost view = { λ l. record {
+      room = l.room;
+      reach = l.reach;
+      kept = l.kept.items;
+      run = l.run;
+      last = l.last.items;
+    } };
+
+    ghost invariant = { λ l.
+        IsLot l.last.items (vec_len l.kept) (vec_capacity l.kept) l.room (vec_len l.last) (vec_capacity l.last) };
+}
+
+impl Lot {
+    /// A lot that holds nothing. It keeps at most `room` full pages in segments, and a record of its
+    /// touches at most `reach` pages. It takes 32 bytes for each page that it may keep, and no call after
+    /// it takes memory.
+    pub fn open(alloc: Global, room: u32, reach: u32) -> Result<Lot, Memory>
+        ensures { IfOk result (λ lot.
+            lot ≡ record { room = room; reach = reach; kept = []; run = None; last = [] }) }
+    {
+        let last = Vec::with_capacity(alloc, 1)?;
+        match Vec::with_capacity(alloc, room as usize) {
+            Ok(kept) => Ok(Lot {
+                kept,
+                room,
+                reach,
+                run: None,
+                last,
+            }),
+            Err(_) => {
+                last.destroy_empty();
+                Err(Memory)
+            }
+        }
+    }
+
+    // Puts a page behind those before it: it is kept, where no page was spilled yet, there is room for it and
+    // the purse has another segment, and else it is spilled, and its segment goes to the purse.
+    fn store<D: Spill>(&mut self, page: Segment, purse: &mut Purse, disk: &mut D) -> Result<(), StreamFault>
+        requires some { 0 < used page }
+        requires within { used page ≤ length (body page) }
+        requires last { self.old.last ≡ [] }
+        requires room { length purse.old.pages + (length (held self.old) + 1) ≤ purse.old.room }
+        requires sound { IsSound (D.told disk.old) self.old (page ∷ purse.old.pages) }
+        ensures cause { HasWriteCause (D.fault_count disk.old) (D.fault_count disk.new) result }
+        ensures added { OnOk result (BothTold (D.told disk.old) (D.told disk.new)
+            (AddsText self.old self.new (part page))) }
+        ensures keeps { BothTold (D.told disk.old) (D.told disk.new)
+            (Keeps self.old self.new (page ∷ purse.old.pages) purse.new.pages) }
+        ensures sound { IsSound (D.told disk.new) self.new purse.new.pages }
+        ensures segments { MovesSegments self.old self.new (page ∷ purse.old.pages) purse.new.pages }
+        ensures supply { OnOk result (0 < length purse.new.pages) }
+        ensures last { self.new.last ≡ [] }
+        ensures room { purse.new.room ≡ purse.old.room }
+        ensures own { (self.new.room ≡ self.old.room) × (self.new.reach ≡ self.old.reach) }
+    {
+        if self.may_keep(purse) {
+            self.keep(page);
+            return Ok(());
+        }
+        self.spill_out(page, purse, disk)
+    }
+
+    // Whether a page may be kept: none was spilled yet, there is room for it, and the purse has another segment.
+    fn may_keep(&self, purse: &Purse) -> bool
+        ensures none { IsTrue result → self.now.run ≡ None }
+        ensures fits { IsTrue result → length self.now.kept < self.now.room }
+        ensures supply { IsTrue result → 0 < length purse.now.pages }
+    {
+        self.run.is_none() && self.kept.len() < self.room as usize && purse.len() > 0
+    }
+
+    // Keeps a page behind the others that are kept.
+    fn keep(&mut self, page: Segment)
+        requires { length self.old.kept < self.old.room }
+        ensures kept { self.new.kept ≡ self.old.kept ++ page ∷ [] }
+        ensures run { self.new.run ≡ self.old.run }
+        ensures last { self.new.last ≡ self.old.last }
+        ensures room { self.new.room ≡ self.old.room }
+        ensures reach { self.new.reach ≡ self.old.reach }
+    {
+        self.kept.push_reserved(page);
+    }
+
+    // Spills a page behind those before it. Its segment goes to the purse.
+    fn spill_out<D: Spill>(&mut self, page: Segment, purse: &mut Purse, disk: &mut D) -> Result<(), StreamFault>
+        requires some { 0 < used page }
+        requires within { used page ≤ length (body page) }
+        requires last { self.old.last ≡ [] }
+        requires room { length purse.old.pages + (length (held self.old) + 1) ≤ purse.old.room }
+        requires sound { IsSound (D.told disk.old) self.old (page ∷ purse.old.pages) }
+        ensures cause { HasWriteCause (D.fault_count disk.old) (D.fault_count disk.new) result }
+        ensures added { OnOk result (BothTold (D.told disk.old) (D.told disk.new)
+            (AddsText self.old self.new (part page))) }
+        ensures keeps { BothTold (D.told disk.old) (D.told disk.new)
+            (Keeps self.old self.new (page ∷ purse.old.pages) purse.new.pages) }
+        ensures sound { IsSound (D.told disk.new) self.new purse.new.pages }
+        ensures segments { MovesSegments self.old self.new (page ∷ purse.old.pages) purse.new.pages }
+        ensures supply { 0 < length purse.new.pages }
+        ensures last { self.new.last ≡ [] }
+        ensures kept { self.new.kept ≡ self.old.kept }
+        ensures room { purse.new.room ≡ purse.old.room }
+        ensures own { (self.new.room ≡ self.old.room) × (self.new.reach ≡ self.old.reach) }
+    {
+        let mut page = page;
+        let answer = self.spill_page(&mut page, disk);
+        purse.put(page);
+        answer
+    }
+
+    // Spills a page behind those before it.
+    fn spill_page<D: Spill>(&mut self, page: &mut Segment, disk: &mut D) -> Result<(), StreamFault>
+        requires some { 0 < used page.old }
+        requires within { used page.old ≤ length (body page.old) }
+        requires stands { IfTold (D.told disk.old) (λ blocks. IsSpilled blocks (length page.old.bytes) self.old.run) }
+        ensures cause { HasWriteCause (D.fault_count disk.old) (D.fault_count disk.new) result }
+        ensures same { IsSameSegment page.old page.new }
+        ensures part { part page.new ≡ part page.old }
+        ensures longer { OnOk result (BothTold (D.told disk.old) (D.told disk.new)
+            (IsLonger (length page.old.bytes) self.old.run self.new.run page.new.bytes)) }
+        ensures refused { OnErr result (BothTold (D.told disk.old) (D.told disk.new)
+            (IsUnchanged (length page.old.bytes) self.old.run self.new.run)) }
+        ensures kept { self.new.kept ≡ self.old.kept }
+        ensures last { self.new.last ≡ self.old.last }
+        ensures own { (self.new.room ≡ self.old.room) × (self.new.reach ≡ self.old.reach) }
+    {
+        spill(&mut self.run, disk, page)
+    }
+}
