@@ -1,3 +1,4 @@
 pub mod PageLemmas
 pub mod SpillLemmas
 pub mod LotLemmas
+pub mod StepLemmas

@@ -1,5 +1,6 @@
 -- What every call over a lot keeps, whatever it answers.
-use Rattle.std.specs.Prelude.{◌≡◌, ℕ, ◌+◌, List, ◌++◌}
+use Rattle.std.specs.Prelude.{◌≡◌, ℕ, ◌+◌, List, ◌++◌, Result, option_to_list}
+use Rattle.std.specs.Result.{result_ok}
 use Rattle.segment_core.specs.Segments.{Page, weigh}
 use Rattle.flow_outside.specs.Blocks.{Blocks}
 use Rattle.lot_store.specs.Spilling.{LeavesOthers}
@@ -19,3 +20,11 @@ MovesSegments before after purse rest =
 -- These bytes were added behind the lot's.
 abbrev pub AddsText : (before after : Stored) (bytes : List ℕ) (old new : Blocks) → Type 0
 AddsText before after bytes old new = text new after ≡ text old before ++ bytes
+
+-- Bytes that were in the hand before, behind the lot's, are the lot's now, but for those that are in the hand still.
+abbrev pub Trades : (before after : Stored) (taken left : List ℕ) (old new : Blocks) → Type 0
+Trades before after taken left old new = text new after ++ left ≡ text old before ++ taken
+
+-- The segment that a call gave, where it gave one.
+abbrev pub in_hand : {E : Type 0} → Result Page E → List Page
+in_hand answer = option_to_list (result_ok answer)

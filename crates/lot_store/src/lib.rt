@@ -5,6 +5,8 @@
 //! segment that went in stands in the lot or in the purse, whatever a call answers.
 #![tactic(auto)]
 
+mod append;
 pub mod lot;
 mod page;
 mod spill;
+mod store;

@@ -1,19 +1,14 @@
-ghost use Rattle.std.specs.Prelude.{◌≡◌, ℕ, ◌+◌, ◌^◌, ◌<◌, ◌≤◌, [], ◌∷◌, ◌++◌, None, IfOk, OnOk, OnErr, IsTrue, length, take};
+ghost use Rattle.std.specs.Prelude.{◌≡◌, ◌<◌, ◌≤◌, [], ◌∷◌, ◌++◌, None, IfOk, OnOk, OnErr, IfSome, IsTrue, length, option_to_list};
 ghost use Rattle.flow_outside.specs.Blocks.{BothTold};
 ghost use Rattle.flow_outside.specs.Told.{IfTold};
-ghost use Rattle.flow_types.specs.Records.{framed};
-ghost use Rattle.lot_store.specs.Keeping.{AddsText, Keeps, MovesSegments};
-ghost use Rattle.lot_store.specs.Lots.{IsSound, held, text};
+ghost use Rattle.lot_store.specs.Lots.{held};
 ghost use Rattle.lot_store.specs.Spilling.{HasWriteCause, IsLonger, IsSpilled, IsUnchanged};
 ghost use Rattle.paged_view.specs.Pages.{body, part, used};
-ghost use Rattle.segment_core.specs.Segments.{weigh};
 ghost use Rattle.spool.specs.Headers.{IsSameSegment};
 
-use crate::page::{add_bytes, clear, has_space};
 use crate::spill::spill;
 use flow_outside::failure::{Memory, StreamFault};
 use flow_outside::spill::Spill;
-use flow_types::span::Span;
 use segment_core::{Purse, Segment};
 use spool::writer::RunWriter;
 use std::alloc::Global;
@@ -71,35 +66,8 @@ impl Lot {
         }
     }
 
-    // Puts a page behind those before it: it is kept, where no page was spilled yet, there is room for it and
-    // the purse has another segment, and else it is spilled, and its segment goes to the purse.
-    fn store<D: Spill>(&mut self, page: Segment, purse: &mut Purse, disk: &mut D) -> Result<(), StreamFault>
-        requires some { 0 < used page }
-        requires within { used page ≤ length (body page) }
-        requires last { self.old.last ≡ [] }
-        requires room { length purse.old.pages + (length (held self.old) + 1) ≤ purse.old.room }
-        requires sound { IsSound (D.told disk.old) self.old (page ∷ purse.old.pages) }
-        ensures cause { HasWriteCause (D.fault_count disk.old) (D.fault_count disk.new) result }
-        ensures added { OnOk result (BothTold (D.told disk.old) (D.told disk.new)
-            (AddsText self.old self.new (part page))) }
-        ensures keeps { BothTold (D.told disk.old) (D.told disk.new)
-            (Keeps self.old self.new (page ∷ purse.old.pages) purse.new.pages) }
-        ensures sound { IsSound (D.told disk.new) self.new purse.new.pages }
-        ensures segments { MovesSegments self.old self.new (page ∷ purse.old.pages) purse.new.pages }
-        ensures supply { OnOk result (0 < length purse.new.pages) }
-        ensures last { self.new.last ≡ [] }
-        ensures room { purse.new.room ≡ purse.old.room }
-        ensures own { (self.new.room ≡ self.old.room) × (self.new.reach ≡ self.old.reach) }
-    {
-        if self.may_keep(purse) {
-            self.keep(page);
-            return Ok(());
-        }
-        self.spill_out(page, purse, disk)
-    }
-
-    // Whether a page may be kept: none was spilled yet, there is room for it, and the purse has another segment.
-    fn may_keep(&self, purse: &Purse) -> bool
+    /// Whether a page may be kept: none was spilled yet, there is room for it, and the purse has another segment.
+    pub(crate) fn may_keep(&self, purse: &Purse) -> bool
         ensures none { IsTrue result → self.now.run ≡ None }
         ensures fits { IsTrue result → length self.now.kept < self.now.room }
         ensures supply { IsTrue result → 0 < length purse.now.pages }
@@ -107,8 +75,8 @@ impl Lot {
         self.run.is_none() && self.kept.len() < self.room as usize && purse.len() > 0
     }
 
-    // Keeps a page behind the others that are kept.
-    fn keep(&mut self, page: Segment)
+    /// Keeps a page behind the others that are kept.
+    pub(crate) fn keep(&mut self, page: Segment)
         requires { length self.old.kept < self.old.room }
         ensures kept { self.new.kept ≡ self.old.kept ++ page ∷ [] }
         ensures run { self.new.run ≡ self.old.run }
@@ -119,34 +87,8 @@ impl Lot {
         self.kept.push_reserved(page);
     }
 
-    // Spills a page behind those before it. Its segment goes to the purse.
-    fn spill_out<D: Spill>(&mut self, page: Segment, purse: &mut Purse, disk: &mut D) -> Result<(), StreamFault>
-        requires some { 0 < used page }
-        requires within { used page ≤ length (body page) }
-        requires last { self.old.last ≡ [] }
-        requires room { length purse.old.pages + (length (held self.old) + 1) ≤ purse.old.room }
-        requires sound { IsSound (D.told disk.old) self.old (page ∷ purse.old.pages) }
-        ensures cause { HasWriteCause (D.fault_count disk.old) (D.fault_count disk.new) result }
-        ensures added { OnOk result (BothTold (D.told disk.old) (D.told disk.new)
-            (AddsText self.old self.new (part page))) }
-        ensures keeps { BothTold (D.told disk.old) (D.told disk.new)
-            (Keeps self.old self.new (page ∷ purse.old.pages) purse.new.pages) }
-        ensures sound { IsSound (D.told disk.new) self.new purse.new.pages }
-        ensures segments { MovesSegments self.old self.new (page ∷ purse.old.pages) purse.new.pages }
-        ensures supply { 0 < length purse.new.pages }
-        ensures last { self.new.last ≡ [] }
-        ensures kept { self.new.kept ≡ self.old.kept }
-        ensures room { purse.new.room ≡ purse.old.room }
-        ensures own { (self.new.room ≡ self.old.room) × (self.new.reach ≡ self.old.reach) }
-    {
-        let mut page = page;
-        let answer = self.spill_page(&mut page, disk);
-        purse.put(page);
-        answer
-    }
-
-    // Spills a page behind those before it.
-    fn spill_page<D: Spill>(&mut self, page: &mut Segment, disk: &mut D) -> Result<(), StreamFault>
+    /// Spills a page behind those before it.
+    pub(crate) fn spill_page<D: Spill>(&mut self, page: &mut Segment, disk: &mut D) -> Result<(), StreamFault>
         requires some { 0 < used page.old }
         requires within { used page.old ≤ length (body page.old) }
         requires stands { IfTold (D.told disk.old) (λ blocks. IsSpilled blocks (length page.old.bytes) self.old.run) }
@@ -162,5 +104,46 @@ impl Lot {
         ensures own { (self.new.room ≡ self.old.room) × (self.new.reach ≡ self.old.reach) }
     {
         spill(&mut self.run, disk, page)
+    }
+
+    /// Takes the page under way out.
+    pub(crate) fn take_last(&mut self) -> Option<Segment>
+        ensures page { self.old.last ≡ option_to_list result }
+        ensures last { self.new.last ≡ [] }
+        ensures some { IfSome result (λ page. 0 < used page) }
+        ensures within { IfSome result (λ page. used page ≤ length (body page)) }
+        ensures kept { self.new.kept ≡ self.old.kept }
+        ensures run { self.new.run ≡ self.old.run }
+        ensures own { (self.new.room ≡ self.old.room) × (self.new.reach ≡ self.old.reach) }
+    {
+        self.last.pop()
+    }
+
+    /// Makes a page the one under way.
+    pub(crate) fn put_last(&mut self, page: Segment)
+        requires none { self.old.last ≡ [] }
+        requires some { 0 < used page }
+        requires within { used page ≤ length (body page) }
+        ensures last { self.new.last ≡ page ∷ [] }
+        ensures kept { self.new.kept ≡ self.old.kept }
+        ensures run { self.new.run ≡ self.old.run }
+        ensures own { (self.new.room ≡ self.old.room) × (self.new.reach ≡ self.old.reach) }
+    {
+        self.last.push_reserved(page);
+    }
+
+    /// Ends a lot that holds no segment.
+    pub fn end(self)
+        requires { held self ≡ [] }
+    {
+        let Lot {
+            kept,
+            room: _,
+            reach: _,
+            run: _,
+            last,
+        } = self;
+        kept.destroy_empty();
+        last.destroy_empty();
     }
 }
