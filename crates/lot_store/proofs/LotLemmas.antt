@@ -21,7 +21,7 @@ nothing None = tt
 nothing (Some m) = tt
 
 -- Segments that moved have the size that they had.
-moved_fit : (size : ℕ) (before after : Stored) (purse rest : List Page) → MovesSegments before after purse rest
+pub moved_fit : (size : ℕ) (before after : Stored) (purse rest : List Page) → MovesSegments before after purse rest
     → misfits size (held before) ≡ 0 → misfits size purse ≡ 0
     → (misfits size (held after) ≡ 0) × (misfits size rest ≡ 0)
 moved_fit size before after purse rest moves fits purse_fits =
@@ -153,3 +153,14 @@ moves_out before after page back purse rest same kept last put h =
       ap (λ ps. weigh h (ps ++ after.last)) kept,
       ap (λ ps. weigh h (before.kept ++ ps)) last,
     )
+
+-- A page of the size is no misfit.
+abbrev misfit : ℕ → ℕ → ℕ
+misfit size n = cond (not (n == size)) 1 0
+
+no_misfit : (size n : ℕ) → n ≡ size → misfit size n ≡ 0
+no_misfit size n is = grind (arith, nat_tests)
+
+pub misfits_more : (size : ℕ) (p : Page) (ps : List Page) → length p.bytes ≡ size → misfits size ps ≡ 0 → misfits size (p ∷ ps) ≡ 0
+misfits_more size p ps long none =
+    omega (arith, weigh-cons (λ _ n. cond (not (n == size)) 1 0) p ps, no_misfit size (length p.bytes) long, none)

@@ -4,7 +4,9 @@ use Rattle.flow_outside.specs.Blocks.{Blocks, IsLive}
 use Rattle.flow_outside.specs.Causes.{Rose}
 use Rattle.flow_outside.specs.declared.failure.StreamFault.{StreamFault}
 use Rattle.flow_outside.specs.declared.failure.StreamFault.TheVariants as fault
-use Rattle.spool.specs.Runs.{HasBlock, IsWritten, pages_at}
+use Rattle.segment_core.specs.Segments.{Page, misfits}
+use Rattle.spool.specs.Runs.{HasBlock, IsRun, IsWritten, pages_at}
+use Rattle.spool.specs.declared.run.Run.{Run}
 use Rattle.spool.specs.declared.writer.RunWriter.{RunWriter}
 
 -- The spilled pages, in order: those of the run, and none where there is no run.
@@ -44,3 +46,11 @@ pub record HasWriteCause {T : Type 0} (before now : ℕ) (answer : Result T Stre
   pub later : before ≤ now
   pub spill : IsErrOf answer fault.Spill → Rose before now
   pub damaged : (block : ℕ) → IsErrOf answer (fault.Damaged block) → ⊥
+
+-- No block of the run is live.
+abbrev pub FreesBlocks : Option RunWriter → (old new : Blocks) → Type 0
+FreesBlocks run old new = (block : ℕ) → OwnsBlock old run block → new block ≡ None
+
+-- A run stands, and its pages have as many bytes as the segments of a purse, all of which have one size.
+abbrev pub StandsAlone : Run → (purse : List Page) → Blocks → Type 0
+StandsAlone run purse blocks = (size : ℕ) × (misfits size purse ≡ 0) × IsRun blocks size run

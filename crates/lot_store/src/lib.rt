@@ -6,7 +6,9 @@
 #![tactic(auto)]
 
 mod append;
+mod append_page;
 pub mod lot;
 mod page;
 mod spill;
+mod rest;
 mod store;

@@ -1,4 +1,6 @@
-ghost use Rattle.std.specs.Prelude.{◌≡◌, ◌<◌, ◌≤◌, [], ◌∷◌, ◌++◌, None, IfOk, OnOk, OnErr, IfSome, IsTrue, length, option_to_list};
+ghost use Rattle.std.specs.Prelude.{◌≡◌, ℕ, ◌+◌, ◌<◌, ◌≤◌, ◌↔◌, [], ◌∷◌, ◌++◌, None, IfOk, OnOk, OnErr, IfSome, IsTrue, length, option_to_list, vec_len, vec_capacity};
+ghost use Rattle.lot_store.specs.Keeping.{MovesSegments};
+ghost use Rattle.segment_core.specs.Segments.{weigh};
 ghost use Rattle.flow_outside.specs.Blocks.{BothTold};
 ghost use Rattle.flow_outside.specs.Told.{IfTold};
 ghost use Rattle.lot_store.specs.Lots.{held};
@@ -106,10 +108,42 @@ impl Lot {
         spill(&mut self.run, disk, page)
     }
 
+    /// Whether it holds no more segments than its room.
+    pub(crate) fn fits_room(&self) -> bool
+        ensures { IsTrue result ↔ (length (held self.now) ≤ self.now.room) }
+    {
+        self.kept.len() + self.last.len() <= self.room as usize
+    }
+
+    /// Puts all of its segments into a purse.
+    pub(crate) fn give_all(&mut self, purse: &mut Purse)
+        requires { length purse.old.pages + length (held self.old) ≤ purse.old.room }
+        ensures empty { held self.new ≡ [] }
+        ensures run { self.new.run ≡ self.old.run }
+        ensures segments { MovesSegments self.old self.new purse.old.pages purse.new.pages }
+        ensures room { purse.new.room ≡ purse.old.room }
+        ensures own { (self.new.room ≡ self.old.room) × (self.new.reach ≡ self.old.reach) }
+    {
+        give(&mut self.kept, purse);
+        give(&mut self.last, purse);
+    }
+
+    /// Takes the run of its spilled pages out.
+    pub(crate) fn take_run(&mut self) -> Option<RunWriter>
+        ensures run { result ≡ self.old.run }
+        ensures none { self.new.run ≡ None }
+        ensures kept { self.new.kept ≡ self.old.kept }
+        ensures last { self.new.last ≡ self.old.last }
+        ensures own { (self.new.room ≡ self.old.room) × (self.new.reach ≡ self.old.reach) }
+    {
+        self.run.take()
+    }
+
     /// Takes the page under way out.
     pub(crate) fn take_last(&mut self) -> Option<Segment>
         ensures page { self.old.last ≡ option_to_list result }
         ensures last { self.new.last ≡ [] }
+        ensures fits { length self.new.kept ≤ self.new.room }
         ensures some { IfSome result (λ page. 0 < used page) }
         ensures within { IfSome result (λ page. used page ≤ length (body page)) }
         ensures kept { self.new.kept ≡ self.old.kept }
@@ -145,5 +179,20 @@ impl Lot {
         } = self;
         kept.destroy_empty();
         last.destroy_empty();
+    }
+}
+
+// Puts segments into a purse, all of them.
+fn give(pages: &mut Vec<Segment>, purse: &mut Purse)
+    requires { length purse.old.pages + length pages.old.items ≤ purse.old.room }
+    ensures none { pages.new.items ≡ [] }
+    ensures len { vec_len pages.new ≡ 0 }
+    ensures capacity { vec_capacity pages.new ≡ vec_capacity pages.old }
+    ensures room { purse.new.room ≡ purse.old.room }
+    ensures segments { (h : ℕ → ℕ → ℕ) → weigh h purse.new.pages ≡ weigh h purse.old.pages + weigh h pages.old.items }
+    ensures count { length purse.new.pages ≡ length purse.old.pages + length pages.old.items }
+{
+    'pages: while let Some(page) = pages.pop() {
+        purse.put(page);
     }
 }
