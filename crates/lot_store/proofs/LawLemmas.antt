@@ -1,5 +1,5 @@
 -- What leaves the blocks of others leaves a lot that stands apart.
-use Rattle.std.proofs.Common.{◌≡◌, ℕ, List, ◌++◌, Option, Some, None, refl, ap}
+use Rattle.std.proofs.Common.{◌≡◌, ℕ, ◌++◌, Option, Some, None, refl, ap}
 use Rattle.flow_outside.specs.Blocks.{Blocks}
 use Rattle.paged_view.specs.Pages.{parts}
 use Rattle.spool.specs.Runs.{HasBlock, joined}
@@ -7,8 +7,8 @@ use Rattle.spool.specs.Changes.{IsKept}
 use Rattle.spool.specs.declared.writer.RunWriter.{RunWriter}
 use Rattle.spool.proofs.ChainLemmas.{chain_lives}
 use Rattle.spool.proofs.PushLemmas.{writer_stays}
-use Rattle.lot_store.specs.Spilling.{IsSpilled, LeavesOthers, OwnsBlock, spilled}
-use Rattle.lot_store.specs.Lots.{Stored, text}
+use Rattle.lot_store.specs.Spilling.{IsSpilled, LeavesOthers, spilled}
+use Rattle.lot_store.specs.Lots.{Stored}
 use Rattle.lot_store.specs.Laws.{AreApart, IsOther}
 
 -- The same of a run.

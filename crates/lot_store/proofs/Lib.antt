@@ -2,3 +2,4 @@ pub mod PageLemmas
 pub mod SpillLemmas
 pub mod LotLemmas
 pub mod StepLemmas
+pub mod LawLemmas

@@ -1,5 +1,5 @@
 -- What a step of a lot keeps and adds.
-use Rattle.std.proofs.Common.{Result, Ok, Err, OnOk, OnErr, ◌≡◌, ℕ, ◌+◌, ◌-◌, ◌<◌, ◌≤◌, ◌==◌, cond, not, true, false, Bool, List, [], ◌∷◌, ◌++◌, length, Option, Some, None, refl, sym, ap, ◌∙◌, subst, arith, append_assoc, append-nil}
+use Rattle.std.proofs.Common.{Result, Ok, Err, OnOk, OnErr, ◌≡◌, ℕ, ◌+◌, ◌==◌, cond, not, List, [], ◌∷◌, ◌++◌, length, Option, Some, None, refl, sym, ap, ◌∙◌, subst, arith, append_assoc, append-nil}
 use Rattle.std.proofs.lemmas.Bool.Decides.{nat_tests}
 use Rattle.std.proofs.lemmas.Grind.{flat_map-append}
 use Rattle.segment_core.specs.Segments.{Page, misfits, weigh}
@@ -9,11 +9,10 @@ use Rattle.flow_outside.specs.Told.{IfTold}
 use Rattle.paged_view.specs.Pages.{part, parts}
 use Rattle.spool.specs.Headers.{IsSameSegment, as_page}
 use Rattle.spool.specs.Runs.{joined}
-use Rattle.spool.specs.declared.writer.RunWriter.{RunWriter}
-use Rattle.lot_store.specs.Spilling.{IsLonger, IsUnchanged, IsSpilled, LeavesOthers, OwnsBlock, spilled}
-use Rattle.lot_store.specs.Lots.{Stored, StandsWith, IsSound, held, text}
+use Rattle.lot_store.specs.Spilling.{IsLonger, IsUnchanged, IsSpilled, OwnsBlock, spilled}
+use Rattle.lot_store.specs.Lots.{Stored, IsSound, held, text}
 use Rattle.lot_store.specs.Keeping.{Keeps, MovesSegments, AddsText}
-use Rattle.lot_store.proofs.SpillLemmas.{told_join, told_with, told_both}
+use Rattle.lot_store.proofs.SpillLemmas.{told_with}
 
 -- Nothing is true of whatever is told.
 nothing : (t : Option Blocks) → IfTold t (λ m. Unit {0})

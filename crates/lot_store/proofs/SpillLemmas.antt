@@ -1,13 +1,12 @@
 -- What spilling a page does to a disk.
-use Rattle.std.proofs.Common.{◌≡◌, ◌≢◌, ◌⊎◌, inl, inr, ℕ, ◌+◌, ◌≤◌, List, [], ◌∷◌, ◌++◌, length, Option, Some, None, refl, sym, ap, ◌∙◌, subst}
-use Rattle.std.proofs.lemmas.Bool.{cases_eq}
-use Rattle.flow_outside.specs.Blocks.{Blocks, BothTold, Becomes, IsGiven, IsLive}
+use Rattle.std.proofs.Common.{◌≡◌, ◌≢◌, ℕ, List, [], ◌∷◌, ◌++◌, Option, Some, None, refl, sym, ap, ◌∙◌, subst}
+use Rattle.flow_outside.specs.Blocks.{Blocks, BothTold, Becomes, IsGiven}
 use Rattle.flow_outside.specs.Told.{IfTold}
 use Rattle.spool.specs.Runs.{pages_at, HasBlock, IsWritten}
 use Rattle.spool.specs.Changes.{IsAppended, IsKept, IsPushed, LeavesOpen}
 use Rattle.spool.specs.declared.writer.RunWriter.{RunWriter}
 use Rattle.spool.proofs.PushLemmas.{push_leaves, open_leaves}
-use Rattle.lot_store.specs.Spilling.{IsLonger, IsUnchanged, LeavesOthers, IsSpilled}
+use Rattle.lot_store.specs.Spilling.{IsLonger, IsUnchanged}
 
 -- Two changes of a disk, one after the other.
 pub told_join : (t u v : Option Blocks) (P Q R : Blocks → Blocks → Type 0) → ((k m n : Blocks) → P k m → Q m n → R k n) → BothTold t u P → BothTold u v Q → BothTold t v R

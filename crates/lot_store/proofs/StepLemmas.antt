@@ -1,6 +1,6 @@
 -- Steps of a lot, one after the other.
-use Rattle.std.proofs.Common.{◌≡◌, ◌≢◌, ℕ, ◌+◌, ◌-◌, ◌<◌, ◌≤◌, take, drop, Result, Ok, Err, IfOk, OnOk, OnErr, IsErrOf, List, [], ◌∷◌, ◌++◌, length, Option, Some, None, refl, sym, ap, ◌∙◌, subst, arith, append_assoc, append-nil, length-append}
-use Rattle.segment_core.specs.Segments.{Page, misfits, weigh}
+use Rattle.std.proofs.Common.{◌≡◌, ℕ, ◌+◌, ◌-◌, ◌<◌, ◌≤◌, take, drop, Result, Ok, Err, IfOk, OnOk, List, [], ◌∷◌, ◌++◌, length, Option, Some, None, refl, sym, ap, ◌∙◌, subst, arith, append_assoc, append-nil}
+use Rattle.segment_core.specs.Segments.{Page, weigh}
 use Rattle.segment_core.proofs.Weighing.{fits_first, fits_rest, weigh-append, weigh-cons, weigh-one, weigh-ones, weigh-push}
 use Rattle.flow_outside.specs.Blocks.{Blocks, BothTold}
 use Rattle.flow_outside.specs.Told.{IfTold}

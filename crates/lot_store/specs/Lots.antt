@@ -1,5 +1,5 @@
 -- Lots as contracts see them, and the bytes that they stand for. The rules are this project's own.
-use Rattle.std.specs.Prelude.{◌≡◌, ◌<◌, ◌≤◌, ℕ, List, ◌++◌, length, Option, IsTrue}
+use Rattle.std.specs.Prelude.{◌≡◌, ◌<◌, ◌≤◌, ℕ, List, ◌++◌, length, Option}
 use Rattle.segment_core.specs.Segments.{Page, misfits}
 use Rattle.flow_outside.specs.Blocks.{Blocks}
 use Rattle.flow_outside.specs.Told.{IfTold}

@@ -7,8 +7,9 @@
 
 mod append;
 mod append_page;
+pub mod laws;
 pub mod lot;
 mod page;
-mod spill;
 mod rest;
+mod spill;
 mod store;

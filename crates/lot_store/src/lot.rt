@@ -90,7 +90,11 @@ impl Lot {
     }
 
     /// Spills a page behind those before it.
-    pub(crate) fn spill_page<D: Spill>(&mut self, page: &mut Segment, disk: &mut D) -> Result<(), StreamFault>
+    pub(crate) fn spill_page<D: Spill>(
+        &mut self,
+        page: &mut Segment,
+        disk: &mut D,
+    ) -> Result<(), StreamFault>
         requires some { 0 < used page.old }
         requires within { used page.old ≤ length (body page.old) }
         requires stands { IfTold (D.told disk.old) (λ blocks. IsSpilled blocks (length page.old.bytes) self.old.run) }

@@ -16,7 +16,12 @@ use segment_core::{Purse, Segment};
 impl Lot {
     /// Puts a page behind those before it: it is kept, where no page was spilled yet, there is room for it and
     /// the purse has another segment, and else it is spilled, and its segment goes to the purse.
-    pub(crate) fn store<D: Spill>(&mut self, page: Segment, purse: &mut Purse, disk: &mut D) -> Result<(), StreamFault>
+    pub(crate) fn store<D: Spill>(
+        &mut self,
+        page: Segment,
+        purse: &mut Purse,
+        disk: &mut D,
+    ) -> Result<(), StreamFault>
         requires some { 0 < used page }
         requires within { used page ≤ length (body page) }
         requires last { self.old.last ≡ [] }
@@ -42,7 +47,12 @@ impl Lot {
     }
 
     /// Spills a page behind those before it. Its segment goes to the purse.
-    pub(crate) fn spill_out<D: Spill>(&mut self, page: Segment, purse: &mut Purse, disk: &mut D) -> Result<(), StreamFault>
+    pub(crate) fn spill_out<D: Spill>(
+        &mut self,
+        page: Segment,
+        purse: &mut Purse,
+        disk: &mut D,
+    ) -> Result<(), StreamFault>
         requires some { 0 < used page }
         requires within { used page ≤ length (body page) }
         requires last { self.old.last ≡ [] }
@@ -69,7 +79,11 @@ impl Lot {
 
     /// Takes the page under way out, where it has room for another byte, and else takes a blank one from the
     /// purse, and stores the page under way.
-    pub(crate) fn next_page<D: Spill>(&mut self, purse: &mut Purse, disk: &mut D) -> Result<Segment, StreamFault>
+    pub(crate) fn next_page<D: Spill>(
+        &mut self,
+        purse: &mut Purse,
+        disk: &mut D,
+    ) -> Result<Segment, StreamFault>
         requires supply { 0 < length purse.old.pages + length self.old.last }
         requires room { length purse.old.pages + length (held self.old) ≤ purse.old.room }
         requires sound { IsSound (D.told disk.old) self.old purse.old.pages }
@@ -91,7 +105,12 @@ impl Lot {
     }
 
     // The same, of a page that was taken out.
-    fn go_on<D: Spill>(&mut self, page: Segment, purse: &mut Purse, disk: &mut D) -> Result<Segment, StreamFault>
+    fn go_on<D: Spill>(
+        &mut self,
+        page: Segment,
+        purse: &mut Purse,
+        disk: &mut D,
+    ) -> Result<Segment, StreamFault>
         requires some { 0 < used page }
         requires within { used page ≤ length (body page) }
         requires last { self.old.last ≡ [] }

@@ -1,7 +1,5 @@
-use Rattle.std.proofs.Common.{take, length, ap, sym, ◌∙◌, arith}
-use Rattle.std.proofs.lemmas.List.{length-take-le}
-use Rattle.paged_view.specs.Pages.{body, part, used}
-use Rattle.lot_store.proofs.PageLemmas.{part_more, same_segment, filled_is}
+use Rattle.std.proofs.Common.{length, ap, arith}
+use Rattle.lot_store.proofs.PageLemmas.{part_more, same_segment}
 use Rattle.lot_store.proofs.page.add_bytes.Goals as goal
 
 pub returns-clause-part : goal.returns-clause-part

@@ -1,4 +1,4 @@
-use Rattle.std.proofs.Common.{◌≡◌, ◌+◌, ◌≤◌, ◌∷◌, length, sym, subst}
+use Rattle.std.proofs.Common.{◌+◌, ◌≤◌, ◌∷◌, length, sym, subst}
 use Rattle.lot_store.specs.Lots.{held}
 use Rattle.lot_store.proofs.LotLemmas.{keeps_same_told, sound_on}
 use Rattle.lot_store.proofs.StepLemmas.{adds_rested, fits_on, keeps_told, moves_join, moves_taken}

@@ -1,5 +1,5 @@
 -- One piece more was added.
-use Rattle.std.proofs.Common.{rules, arith, ◌∙◌, sym}
+use Rattle.std.proofs.Common.{arith, ◌∙◌}
 use Rattle.paged_view.proofs.WritingLemmas.{piece_within}
 use Rattle.lot_store.proofs.StepLemmas.{adds_piece, keeps_told, moves_join}
 use Rattle.lot_store.proofs.lot.Lot.write.Goals as goal

@@ -1,4 +1,4 @@
-use Rattle.std.proofs.Common.{◌≡◌, ◌+◌, ◌≤◌, ◌∷◌, length, sym, ap, subst}
+use Rattle.std.proofs.Common.{◌+◌, ◌≤◌, ◌∷◌, length, sym, subst}
 use Rattle.paged_view.specs.Pages.{part}
 use Rattle.lot_store.specs.Lots.{held}
 use Rattle.lot_store.proofs.LotLemmas.{sound_on}

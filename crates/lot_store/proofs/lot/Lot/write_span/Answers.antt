@@ -1,5 +1,5 @@
 -- One piece more of the record was added.
-use Rattle.std.proofs.Common.{rules, arith, ◌∙◌, sym}
+use Rattle.std.proofs.Common.{arith, ◌∙◌}
 use Rattle.paged_view.proofs.WritingLemmas.{length-piece}
 use Rattle.lot_store.proofs.StepLemmas.{adds_span, keeps_told, moves_join}
 use Rattle.lot_store.proofs.lot.Lot.write_span.Goals as goal
