@@ -1,0 +1,313 @@
+-- Steps of a lot, one after the other.
+use Rattle.std.proofs.Common.{◌≡◌, ℕ, ◌+◌, ◌-◌, ◌<◌, ◌≤◌, take, drop, Result, Ok, Err, IfOk, OnOk, List, [], ◌∷◌, ◌++◌, length, Option, Some, None, refl, sym, ap, ◌∙◌, subst, arith, append_assoc, append-nil}
+use Rattle.segment_core.specs.Segments.{Page, weigh}
+use Rattle.segment_core.proofs.Weighing.{fits_first, fits_rest, weigh-append, weigh-cons, weigh-one, weigh-ones, weigh-push}
+use Rattle.flow_outside.specs.Blocks.{Blocks, BothTold}
+use Rattle.flow_outside.specs.Told.{IfTold}
+use Rattle.flow_outside.specs.Causes.{Rose}
+use Rattle.flow_outside.specs.declared.failure.StreamFault.{StreamFault}
+use Rattle.paged_view.specs.Pages.{part, parts}
+use Rattle.spool.specs.Headers.{IsSameSegment}
+use Rattle.spool.specs.Runs.{HasBlock, IsRun, IsWritten, joined}
+use Rattle.spool.specs.Changes.{LeavesOthers as LeavesBut}
+use Rattle.spool.specs.declared.run.Run.{Run}
+use Rattle.spool.specs.declared.writer.RunWriter.{RunWriter}
+use Rattle.lot_store.specs.Spilling.{HasWriteCause, IsSpilled, OwnsBlock, StandsAlone, spilled}
+use Rattle.lot_store.specs.Lots.{IsSound, Stored, held, text}
+use Rattle.lot_store.specs.Keeping.{Keeps, MovesSegments, AddsText, Trades}
+use Rattle.lot_store.proofs.SpillLemmas.{told_join}
+use Rattle.lot_store.proofs.LotLemmas.{keeps_same_told, misfits_more, moved_fit, on_ok_map}
+use Rattle.paged_view.proofs.WritingLemmas.{text_piece, text_span}
+
+-- What is kept by one step and by the next is kept by both.
+keeps_join : (a b c : Stored) (p q r : List Page) (k m n : Blocks) → Keeps a b p q k m → Keeps b c q r m n → Keeps a c p r k n
+keeps_join a b c p q r k m n first next = record {
+  stands = λ size s. next.stands size (first.stands size s);
+  others = λ block live other.
+      let one = first.others block live other in
+      let two = next.others block (λ gone. live (sym one.0 ∙ gone)) one.1 in
+      (two.0 ∙ one.0, two.1);
+}
+
+pub keeps_told : (t u v : Option Blocks) (a b c : Stored) (p q r : List Page) → BothTold t u (Keeps a b p q) → BothTold u v (Keeps b c q r) → BothTold t v (Keeps a c p r)
+keeps_told t u v a b c p q r first next =
+    told_join t u v (Keeps a b p q) (Keeps b c q r) (Keeps a c p r) (keeps_join a b c p q r) first next
+
+-- The same lot keeps what it has where segments move in the purse alone.
+pub keeps_again : (t u : Option Blocks) (a b : Stored) (p q r : List Page) → BothTold t u (Keeps a b p q) → ((h : ℕ → ℕ → ℕ) → weigh h r ≡ weigh h q) → BothTold t u (Keeps a b p r)
+keeps_again t u a b p q r first same =
+    keeps_told t u u a b b p q r first (keeps_same_told u b b q r (λ h. ap (λ w. w + weigh h (held b)) (same h)) refl)
+
+pub keeps_nothing : (t : Option Blocks) (a : Stored) (p : List Page) → BothTold t t (Keeps a a p p)
+keeps_nothing t a p = keeps_same_told t a a p p (λ h. refl) refl
+
+-- Nothing was added yet.
+pub trades_nothing : (t : Option Blocks) (a : Stored) (bytes : List ℕ) → BothTold t t (Trades a a bytes bytes)
+trades_nothing None a bytes = tt
+trades_nothing (Some m) a bytes = refl
+
+-- A page was added, and the one in the hand is blank.
+pub trades_added : (t u : Option Blocks) (a b : Stored) (bytes none : List ℕ) → none ≡ [] → BothTold t u (AddsText a b bytes) → BothTold t u (Trades a b bytes none)
+trades_added None None a b bytes none is added = tt
+trades_added None (Some n) a b bytes none is added = added
+trades_added (Some m) None a b bytes none is added = added
+trades_added (Some m) (Some n) a b bytes none is added =
+    ap (λ xs. text n b ++ xs) is ∙ append-nil (text n b) ∙ added
+
+-- the spilled bytes of a lot
+abbrev joined_of : Blocks → Stored → List ℕ
+joined_of m a = joined (spilled m a.run)
+
+-- The lot without the page under way.
+pub text_taken : (m : Blocks) (a b : Stored) (page : Page) → a.last ≡ page ∷ [] → b.last ≡ [] → b.kept ≡ a.kept → b.run ≡ a.run → text m a ≡ text m b ++ part page
+text_taken m a b page was none kept run =
+    let e : text m b ≡ parts a.kept ++ (joined_of m a ++ []) = ap (λ ps. parts ps ++ (joined_of m b ++ parts b.last)) kept ∙ ap (λ r. parts a.kept ++ (joined (spilled m r) ++ parts b.last)) run ∙ ap (λ ps. parts a.kept ++ (joined_of m a ++ parts ps)) none in
+    ap (λ ps. parts a.kept ++ (joined_of m a ++ parts ps)) was
+    ∙ ap (λ xs. parts a.kept ++ (joined_of m a ++ xs)) (append-nil (part page))
+    ∙ sym (append_assoc (parts a.kept) (joined_of m a) (part page))
+    ∙ ap (λ xs. xs ++ part page) (sym (e ∙ ap (λ xs. parts a.kept ++ xs) (append-nil (joined_of m a))))
+
+-- The lot with other bytes in the page under way.
+pub text_refilled : (m : Blocks) (a b : Stored) (bytes : List ℕ) → a.last ≡ [] → parts b.last ≡ bytes → b.kept ≡ a.kept → b.run ≡ a.run → text m b ≡ text m a ++ bytes
+text_refilled m a b bytes none is kept run =
+    let e : text m b ≡ parts a.kept ++ (joined_of m a ++ bytes) = ap (λ ps. parts ps ++ (joined_of m b ++ parts b.last)) kept ∙ ap (λ r. parts a.kept ++ (joined (spilled m r) ++ parts b.last)) run ∙ ap (λ xs. parts a.kept ++ (joined_of m a ++ xs)) is in
+    let f : text m a ≡ parts a.kept ++ joined_of m a = ap (λ ps. parts a.kept ++ (joined_of m a ++ parts ps)) none ∙ ap (λ xs. parts a.kept ++ xs) (append-nil (joined_of m a)) in
+    e ∙ sym (append_assoc (parts a.kept) (joined_of m a) bytes) ∙ ap (λ xs. xs ++ bytes) (sym f)
+
+-- A call that goes on after another that wrote.
+pub cause_on : {T : Type 0} (a b c : ℕ) (answer : Result T StreamFault) → a ≤ b → HasWriteCause b c answer → HasWriteCause a c answer
+cause_on a b c answer later cause = record {
+  later = omega (arith, later, cause.later);
+  spill = λ is. let rose : Rose b c = cause.spill is in omega (arith, later, rose);
+  damaged = cause.damaged;
+}
+
+-- Segments that moved twice moved.
+pub moves_join : (a b c : Stored) (p q r : List Page) → MovesSegments a b p q → MovesSegments b c q r → MovesSegments a c p r
+moves_join a b c p q r first next h = next h ∙ first h
+
+-- As many segments fit into a purse as before.
+pub fits_on : (a b : Stored) (p q : List Page) (room : ℕ) → MovesSegments a b p q → length p + length (held a) ≤ room → length q + length (held b) ≤ room
+fits_on a b p q room moves fits =
+    omega (arith, moves (λ _ _. 1), weigh-ones p, weigh-ones q, weigh-ones (held a), weigh-ones (held b))
+
+-- Bytes that were added one after the other.
+pub adds_join : (t u v : Option Blocks) (a b c : Stored) (xs ys : List ℕ) → BothTold t u (AddsText a b xs) → BothTold u v (AddsText b c ys) → BothTold t v (AddsText a c (xs ++ ys))
+adds_join t u v a b c xs ys first next =
+    told_join t u v (AddsText a b xs) (AddsText b c ys) (AddsText a c (xs ++ ys))
+    (λ k m n one two. two ∙ ap (λ zs. zs ++ ys) one ∙ append_assoc (text k a) xs ys)
+    first next
+
+pub adds_nothing : (t : Option Blocks) (a : Stored) → BothTold t t (AddsText a a [])
+adds_nothing None a = tt
+adds_nothing (Some m) a = sym (append-nil (text m a))
+
+-- The page under way goes to the hand.
+pub moves_taken : (a b : Stored) (page : Page) (purse : List Page) → a.last ≡ page ∷ [] → b.last ≡ [] → b.kept ≡ a.kept → MovesSegments a b purse (page ∷ purse)
+moves_taken a b page purse was none kept h =
+    omega (
+      arith,
+      weigh-cons h page purse,
+      ap (λ ps. weigh h (a.kept ++ ps)) was,
+      weigh-append h a.kept (page ∷ []),
+      weigh-one h page,
+      ap (λ ps. weigh h (ps ++ b.last)) kept,
+      ap (λ ps. weigh h (a.kept ++ ps)) none,
+      ap (weigh h) (append-nil a.kept),
+    )
+
+-- There is no page under way.
+pub moves_none : (a b : Stored) (purse : List Page) → a.last ≡ [] → b.last ≡ [] → b.kept ≡ a.kept → MovesSegments a b purse purse
+moves_none a b purse was none kept h =
+    let e : weigh h (held b) ≡ weigh h (held a) = ap (λ ps. weigh h (ps ++ b.last)) kept ∙ ap (λ ps. weigh h (a.kept ++ ps)) (none ∙ sym was) in
+    omega (arith, e)
+
+-- What was traded behind the page under way was traded behind the lot without it.
+trades_taken_at : (m n : Blocks) (a b c : Stored) (page : Page) (left : List ℕ) → a.last ≡ page ∷ [] → b.last ≡ [] → b.kept ≡ a.kept → b.run ≡ a.run → Trades b c (part page) left m n → Trades a c [] left m n
+trades_taken_at m n a b c page left was none kept run trades =
+    trades ∙ sym (text_taken m a b page was none kept run) ∙ sym (append-nil (text m a))
+
+trades_taken_told : (t u : Option Blocks) (a b c : Stored) (page : Page) (left : List ℕ) → a.last ≡ page ∷ [] → b.last ≡ [] → b.kept ≡ a.kept → b.run ≡ a.run → BothTold t u (Trades b c (part page) left) → BothTold t u (Trades a c [] left)
+trades_taken_told None None a b c page left was none kept run trades = tt
+trades_taken_told None (Some n) a b c page left was none kept run trades = trades
+trades_taken_told (Some m) None a b c page left was none kept run trades = trades
+trades_taken_told (Some m) (Some n) a b c page left was none kept run trades =
+    trades_taken_at m n a b c page left was none kept run trades
+
+pub trades_taken : {E : Type 0} (answer : Result Page E) (t u : Option Blocks) (a b c : Stored) (page : Page) → a.last ≡ page ∷ [] → b.last ≡ [] → b.kept ≡ a.kept → b.run ≡ a.run
+    → IfOk answer (λ next. BothTold t u (Trades b c (part page) (part next))) → IfOk answer (λ next. BothTold t u (Trades a c [] (part next)))
+trades_taken (Ok next) t u a b c page was none kept run trades =
+    trades_taken_told t u a b c page (part next) was none kept run trades
+trades_taken (Err fault) t u a b c page was none kept run trades = tt
+
+-- Bytes that were written behind a page in the hand, which is then the page under way, are added.
+adds_filled_at : (m n : Blocks) (a b c : Stored) (page bytes : List ℕ) → b.last ≡ [] → parts c.last ≡ page ++ bytes → c.kept ≡ b.kept → c.run ≡ b.run → Trades a b [] page m n → AddsText a c bytes m n
+adds_filled_at m n a b c page bytes none is kept run trades =
+    text_refilled n b c (page ++ bytes) none is kept run
+    ∙ sym (append_assoc (text n b) page bytes)
+    ∙ ap (λ xs. xs ++ bytes) (trades ∙ append-nil (text m a))
+
+pub adds_filled : (t u : Option Blocks) (a b c : Stored) (page bytes : List ℕ) → b.last ≡ [] → parts c.last ≡ page ++ bytes → c.kept ≡ b.kept → c.run ≡ b.run → BothTold t u (Trades a b [] page) → BothTold t u (AddsText a c bytes)
+adds_filled None None a b c page bytes none is kept run trades = tt
+adds_filled None (Some n) a b c page bytes none is kept run trades = trades
+adds_filled (Some m) None a b c page bytes none is kept run trades = trades
+adds_filled (Some m) (Some n) a b c page bytes none is kept run trades =
+    adds_filled_at m n a b c page bytes none is kept run trades
+
+-- The page in the hand went into the lot.
+pub moves_filled : (a b : Stored) (page : Page) (purse : List Page) → ((h : ℕ → ℕ → ℕ) → weigh h (held b) ≡ weigh h (held a) + weigh h (page ∷ [])) → MovesSegments a b (page ∷ purse) purse
+moves_filled a b page purse more h =
+    omega (arith, more h, weigh-one h page, weigh-cons h page purse)
+
+pub keeps_filled : (t u : Option Blocks) (a b c : Stored) (page : Page) (p purse : List Page) → ((h : ℕ → ℕ → ℕ) → weigh h (held c) ≡ weigh h (held b) + weigh h (page ∷ [])) → c.run ≡ b.run → BothTold t u (Keeps a b p (page ∷ purse)) → BothTold t u (Keeps a c p purse)
+keeps_filled t u a b c page p purse more run keeps =
+    keeps_told t u u a b c p (page ∷ purse) purse keeps (keeps_same_told u b c (page ∷ purse) purse (moves_filled b c page purse more) run)
+
+-- One piece more of a slice was added.
+pub adds_piece : (t u v : Option Blocks) (a b c : Stored) (bytes : List ℕ) (at n : ℕ) → BothTold t u (AddsText a b (take at bytes)) → BothTold u v (AddsText b c (take n (take (length bytes - at) (drop at bytes)))) → BothTold t v (AddsText a c (take (at + n) bytes))
+adds_piece t u v a b c bytes at n first next =
+    told_join t u v (AddsText a b (take at bytes)) (AddsText b c (take n (take (length bytes - at) (drop at bytes)))) (AddsText a c (take (at + n) bytes))
+    (λ k l m one two. text_piece (text k a) (text l b) (text m c) bytes at n one two)
+    first next
+
+-- One piece more of a record was added.
+pub adds_span : (t u v : Option Blocks) (a b c : Stored) (bytes piece : List ℕ) (at : ℕ) → BothTold t u (AddsText a b (take at bytes)) → piece ≡ take (length piece) (drop at bytes) → BothTold u v (AddsText b c piece) → BothTold t v (AddsText a c (take (at + length piece) bytes))
+adds_span t u v a b c bytes piece at first is next =
+    told_join t u v (AddsText a b (take at bytes)) (AddsText b c piece) (AddsText a c (take (at + length piece) bytes))
+    (λ k l m one two. text_span (text k a) (text l b) (text m c) bytes piece at one is two)
+    first next
+
+-- What a second call adds stands behind what the first one did.
+pub adds_then : {E : Type 0} (answer : Result Unit E) (t u v : Option Blocks) (a b c : Stored) (xs ys : List ℕ) → BothTold t u (AddsText a b xs) → OnOk answer (BothTold u v (AddsText b c ys)) → OnOk answer (BothTold t v (AddsText a c (xs ++ ys)))
+adds_then answer t u v a b c xs ys first next =
+    on_ok_map answer _ _ (λ two. adds_join t u v a b c xs ys first two) next
+
+-- A page goes on top of a purse.
+pub moves_put : (a : Stored) (page : Page) (purse rest : List Page) → rest ≡ purse ++ page ∷ [] → MovesSegments a a (page ∷ purse) rest
+moves_put a page purse rest put h =
+    omega (arith, ap (weigh h) put, weigh-push h purse page, weigh-cons h page purse)
+
+-- A page becomes the one under way.
+pub moves_last : (a b : Stored) (page : Page) (purse : List Page) → a.last ≡ [] → b.last ≡ page ∷ [] → b.kept ≡ a.kept → MovesSegments a b (page ∷ purse) purse
+moves_last a b page purse was now kept h =
+    omega (
+      arith,
+      weigh-cons h page purse,
+      ap (λ ps. weigh h (a.kept ++ ps)) was,
+      ap (weigh h) (append-nil a.kept),
+      weigh-append h a.kept (page ∷ []),
+      weigh-one h page,
+      ap (λ ps. weigh h (ps ++ b.last)) kept,
+      ap (λ ps. weigh h (a.kept ++ ps)) now,
+    )
+
+-- Another page stands beside the purse all the time.
+keeps_beside_at : (a b : Stored) (page : Page) (p q : List Page) (m n : Blocks) → Keeps a b p q m n → Keeps a b (page ∷ p) (page ∷ q) m n
+keeps_beside_at a b page p q m n keeps = record {
+  stands = λ size s.
+      let t = keeps.stands size (record { own = s.own; others = fits_rest size page p s.others; spilled = s.spilled }) in
+      record {
+        own = t.own;
+        others = misfits_more size page q (fits_first size page p s.others) t.others;
+        spilled = t.spilled;
+      };
+  others = keeps.others;
+}
+
+pub keeps_beside : (t u : Option Blocks) (a b : Stored) (page : Page) (p q : List Page) → BothTold t u (Keeps a b p q) → BothTold t u (Keeps a b (page ∷ p) (page ∷ q))
+keeps_beside None None a b page p q keeps = tt
+keeps_beside None (Some n) a b page p q keeps = keeps
+keeps_beside (Some m) None a b page p q keeps = keeps
+keeps_beside (Some m) (Some n) a b page p q keeps =
+    keeps_beside_at a b page p q m n keeps
+
+pub moves_beside : (a b : Stored) (page : Page) (p q : List Page) → MovesSegments a b p q → MovesSegments a b (page ∷ p) (page ∷ q)
+moves_beside a b page p q moves h =
+    omega (arith, moves h, weigh-cons h page p, weigh-cons h page q)
+
+-- A lot that is sound beside a page and a purse is sound beside the purse.
+pub sound_rest : (t : Option Blocks) (a : Stored) (page : Page) (p : List Page) → IsSound t a (page ∷ p) → IsSound t a p
+sound_rest None a page p sound = tt
+sound_rest (Some m) a page p (size, s) =
+    (size, record { own = s.own; others = fits_rest size page p s.others; spilled = s.spilled })
+
+-- A page that is the same segment weighs the same.
+weigh_same : (h : ℕ → ℕ → ℕ) (p q : Page) (ps : List Page) → IsSameSegment p q → weigh h (q ∷ ps) ≡ weigh h (p ∷ ps)
+weigh_same h p q ps same =
+    let one : h q.id (length q.bytes) ≡ h p.id (length p.bytes) = ap (λ i. h i (length q.bytes)) same.id ∙ ap (h p.id) same.len in
+    omega (arith, one, weigh-cons h p ps, weigh-cons h q ps)
+
+pub moves_same : (a : Stored) (p q : Page) (ps : List Page) → IsSameSegment p q → MovesSegments a a (p ∷ ps) (q ∷ ps)
+moves_same a p q ps same h =
+    ap (λ w. w + weigh h (held a)) (weigh_same h p q ps same)
+
+-- What was added behind the lot without its page under way, that page first, was added behind the lot.
+adds_taken_at : (m n : Blocks) (a b c : Stored) (page : Page) (more : List ℕ) → a.last ≡ page ∷ [] → b.last ≡ [] → b.kept ≡ a.kept → b.run ≡ a.run → AddsText b c (part page ++ more) m n → AddsText a c more m n
+adds_taken_at m n a b c page more was none kept run added =
+    added ∙ sym (append_assoc (text m b) (part page) more) ∙ ap (λ xs. xs ++ more) (sym (text_taken m a b page was none kept run))
+
+adds_taken_told : (t u : Option Blocks) (a b c : Stored) (page : Page) (more : List ℕ) → a.last ≡ page ∷ [] → b.last ≡ [] → b.kept ≡ a.kept → b.run ≡ a.run → BothTold t u (AddsText b c (part page ++ more)) → BothTold t u (AddsText a c more)
+adds_taken_told None None a b c page more was none kept run added = tt
+adds_taken_told None (Some n) a b c page more was none kept run added = added
+adds_taken_told (Some m) None a b c page more was none kept run added = added
+adds_taken_told (Some m) (Some n) a b c page more was none kept run added =
+    adds_taken_at m n a b c page more was none kept run added
+
+pub adds_taken : {E : Type 0} (answer : Result Unit E) (t u : Option Blocks) (a b c : Stored) (page : Page) (more : List ℕ) → a.last ≡ page ∷ [] → b.last ≡ [] → b.kept ≡ a.kept → b.run ≡ a.run → OnOk answer (BothTold t u (AddsText b c (part page ++ more))) → OnOk answer (BothTold t u (AddsText a c more))
+adds_taken answer t u a b c page more was none kept run added =
+    on_ok_map answer _ _ (adds_taken_told t u a b c page more was none kept run) added
+
+pub adds_rested : {E : Type 0} (answer : Result Unit E) (t u : Option Blocks) (a b c : Stored) (page : Page) → a.last ≡ page ∷ [] → b.last ≡ [] → b.kept ≡ a.kept → b.run ≡ a.run → OnOk answer (BothTold t u (AddsText b c (part page))) → OnOk answer (BothTold t u (AddsText a c []))
+adds_rested answer t u a b c page was none kept run added =
+    adds_taken answer t u a b c page [] was none kept run
+    (subst (λ xs. OnOk answer (BothTold t u (AddsText b c xs))) (sym (append-nil (part page))) added)
+
+-- A page became the one under way.
+pub adds_last : (t : Option Blocks) (a b : Stored) (page : Page) → a.last ≡ [] → b.last ≡ page ∷ [] → b.kept ≡ a.kept → b.run ≡ a.run → BothTold t t (AddsText a b (part page))
+adds_last None a b page none now kept run = tt
+adds_last (Some m) a b page none now kept run =
+    text_refilled m a b (part page) none (ap parts now ∙ append-nil (part page)) kept run
+
+-- The purse has room for one page more.
+pub put_on : (a b : Stored) (last : Page) (p q : List Page) (room now : ℕ) → MovesSegments a b (last ∷ p) q → length p + (length (held a) + 2) ≤ room → now ≡ room → length q < now
+put_on a b last p q room now moves fits same =
+    omega (arith, moves (λ _ _. 1), weigh-cons (λ _ _. 1) last p, weigh-ones p, weigh-ones q, weigh-ones (held a), weigh-ones (held b), fits, same)
+
+-- The purse has a segment where it or the lot had one, and the lot has none now.
+pub supply_on : (a b : Stored) (p q : List Page) → MovesSegments a b p q → held b ≡ [] → 0 < length p + length (held a) → 0 < length q
+supply_on a b p q moves none some =
+    omega (arith, moves (λ _ _. 1), weigh-ones p, weigh-ones q, weigh-ones (held a), weigh-ones (held b), ap length none, some)
+
+-- The run of a lot that is sound stands alone.
+pub stands_alone : (t : Option Blocks) (a b : Stored) (p q : List Page) (writer : RunWriter) (run : Run) → IsSound t a p → MovesSegments a b p q → a.run ≡ Some writer → run ≡ record { first = writer.first; pages = writer.pages } → IfTold t (StandsAlone run q)
+stands_alone None a b p q writer run sound moves was is = tt
+stands_alone (Some m) a b p q writer run (size, s) moves was is =
+    let w : IsWritten m size writer = subst (IsSpilled m size) was s.spilled in
+    (size, (moved_fit size a b p q moves s.own s.others).1, subst (IsRun m size) (sym is) w.stands)
+
+-- A lot whose run ended keeps what it has.
+keeps_ended_at : (m n : Blocks) (a b : Stored) (p q : List Page) (writer : RunWriter) (run : Run) → MovesSegments a b p q → a.run ≡ Some writer → b.run ≡ None → run ≡ record { first = writer.first; pages = writer.pages } → LeavesBut run m n → Keeps a b p q m n
+keeps_ended_at m n a b p q writer run moves was none is others = record {
+  stands = λ size s. let fit = moved_fit size a b p q moves s.own s.others in record {
+    own = fit.0;
+    others = fit.1;
+    spilled = subst (IsSpilled n size) (sym none) tt;
+  };
+  others = λ k live other. (
+    others k (λ h. other (subst (λ r. OwnsBlock m r k) (sym was) (subst (λ r. HasBlock m r.first r.pages k) is h))),
+    (λ h. subst (λ r. OwnsBlock n r k) none h),
+  );
+}
+
+pub keeps_ended : (t u : Option Blocks) (a b : Stored) (p q : List Page) (writer : RunWriter) (run : Run) → MovesSegments a b p q → a.run ≡ Some writer → b.run ≡ None → run ≡ record { first = writer.first; pages = writer.pages } → BothTold t u (LeavesBut run) → BothTold t u (Keeps a b p q)
+keeps_ended None None a b p q writer run moves was none is others = tt
+keeps_ended None (Some n) a b p q writer run moves was none is others = others
+keeps_ended (Some m) None a b p q writer run moves was none is others = others
+keeps_ended (Some m) (Some n) a b p q writer run moves was none is others =
+    keeps_ended_at m n a b p q writer run moves was none is others
+
+-- The same segments, in another purse of the same weight.
+pub moves_ended : (a b c : Stored) (p q r : List Page) → MovesSegments a b p q → c.kept ≡ b.kept → c.last ≡ b.last → ((h : ℕ → ℕ → ℕ) → weigh h r ≡ weigh h q) → MovesSegments a c p r
+moves_ended a b c p q r moves kept last same h =
+    let e : weigh h (held c) ≡ weigh h (held b) = ap (λ ps. weigh h (ps ++ c.last)) kept ∙ ap (λ ps. weigh h (b.kept ++ ps)) last in
+    omega (arith, moves h, same h, e)

@@ -1,0 +1,22 @@
+use Rattle.std.proofs.Common.{◌≡◌, ◌+◌, ◌-◌, ◌<◌, ◌≤◌, length, take}
+use Rattle.flow_outside.specs.Blocks.{BothTold}
+use Rattle.lot_store.specs.Keeping.{AddsText, Keeps, MovesSegments}
+use Rattle.lot_store.specs.Lots.{IsSound, held}
+use Rattle.lot_store.proofs.lot.Lot.write_span.Given as goal
+
+abbrev pub invariant-pieces : goal.invariant-pieces
+invariant-pieces g l = record {
+  within : l.at ≤ l.len;
+  supply : 0 < length l.purse.pages + length l.self.last;
+  later : g.D.Spill.fault_count l.fn.disk ≤ g.D.Spill.fault_count l.disk;
+  added : BothTold (g.D.Spill.told l.fn.disk) (g.D.Spill.told l.disk) (AddsText l.fn.self l.self (take l.at (g.X.Span.seen l.row)));
+  keeps : BothTold (g.D.Spill.told l.fn.disk) (g.D.Spill.told l.disk) (Keeps l.fn.self l.self l.fn.purse.pages l.purse.pages);
+  sound : IsSound (g.D.Spill.told l.disk) l.self l.purse.pages;
+  segments : MovesSegments l.fn.self l.self l.fn.purse.pages l.purse.pages;
+  fits : length l.purse.pages + length (held l.self) ≤ l.purse.room;
+  room : l.purse.room ≡ l.fn.purse.room;
+  own : (l.self.room ≡ l.fn.self.room) × (l.self.reach ≡ l.fn.self.reach);
+}
+
+abbrev pub decreases-pieces : goal.decreases-pieces
+decreases-pieces g l = l.len - l.at

@@ -1,0 +1,4 @@
+pub mod Spilling
+pub mod Lots
+pub mod Keeping
+pub mod Laws

@@ -1,0 +1,110 @@
+ghost use Rattle.std.specs.Prelude.{◌≡◌, ◌+◌, ◌<◌, ◌≤◌, [], ◌∷◌, ◌++◌, OnOk, length};
+ghost use Rattle.flow_outside.specs.Blocks.{BothTold};
+ghost use Rattle.lot_store.specs.Keeping.{AddsText, Keeps, MovesSegments};
+ghost use Rattle.lot_store.specs.Lots.{IsSound, held};
+ghost use Rattle.lot_store.specs.Spilling.{HasWriteCause};
+ghost use Rattle.paged_view.specs.Pages.{body, part, used};
+
+use crate::lot::Lot;
+use crate::page::trim;
+use flow_outside::failure::StreamFault;
+use flow_outside::spill::Spill;
+use segment_core::{Purse, Segment};
+
+impl Lot {
+    /// Adds a page's used bytes behind the lot's: all that stand behind its header, where the header says more.
+    /// It copies no byte of them. The page becomes the one under way, and the one that was is kept or spilled;
+    /// a page of which no byte is used goes to the purse.
+    ///
+    /// `Spill` only where the disk's count of faults rose in this call; what the lot stands for is then open.
+    pub fn append_page<D: Spill>(
+        &mut self,
+        page: Segment,
+        purse: &mut Purse,
+        disk: &mut D,
+    ) -> Result<(), StreamFault>
+        requires room { length purse.old.pages + (length (held self.old) + 1) ≤ purse.old.room }
+        requires sound { IsSound (D.told disk.old) self.old (page ∷ purse.old.pages) }
+        ensures cause { HasWriteCause (D.fault_count disk.old) (D.fault_count disk.new) result }
+        ensures added { OnOk result (BothTold (D.told disk.old) (D.told disk.new)
+            (AddsText self.old self.new (part page))) }
+        ensures keeps { BothTold (D.told disk.old) (D.told disk.new)
+            (Keeps self.old self.new (page ∷ purse.old.pages) purse.new.pages) }
+        ensures sound { IsSound (D.told disk.new) self.new purse.new.pages }
+        ensures segments { MovesSegments self.old self.new (page ∷ purse.old.pages) purse.new.pages }
+        ensures room { purse.new.room ≡ purse.old.room }
+        ensures own { (self.new.room ≡ self.old.room) × (self.new.reach ≡ self.old.reach) }
+    {
+        let mut page = page;
+        if trim(&mut page) == 0 {
+            purse.put(page);
+            return Ok(());
+        }
+        self.push_page(page, purse, disk)
+    }
+
+    // The same, of a page of which some bytes are used and no more than it has.
+    fn push_page<D: Spill>(
+        &mut self,
+        page: Segment,
+        purse: &mut Purse,
+        disk: &mut D,
+    ) -> Result<(), StreamFault>
+        requires some { 0 < used page }
+        requires within { used page ≤ length (body page) }
+        requires room { length purse.old.pages + (length (held self.old) + 1) ≤ purse.old.room }
+        requires sound { IsSound (D.told disk.old) self.old (page ∷ purse.old.pages) }
+        ensures cause { HasWriteCause (D.fault_count disk.old) (D.fault_count disk.new) result }
+        ensures added { OnOk result (BothTold (D.told disk.old) (D.told disk.new)
+            (AddsText self.old self.new (part page))) }
+        ensures keeps { BothTold (D.told disk.old) (D.told disk.new)
+            (Keeps self.old self.new (page ∷ purse.old.pages) purse.new.pages) }
+        ensures segments { MovesSegments self.old self.new (page ∷ purse.old.pages) purse.new.pages }
+        ensures room { purse.new.room ≡ purse.old.room }
+        ensures own { (self.new.room ≡ self.old.room) × (self.new.reach ≡ self.old.reach) }
+    {
+        match self.take_last() {
+            Some(last) => self.push_behind(last, page, purse, disk),
+            None => {
+                self.put_last(page);
+                Ok(())
+            }
+        }
+    }
+
+    // Stores the page that was under way, and makes another the one under way.
+    fn push_behind<D: Spill>(
+        &mut self,
+        last: Segment,
+        page: Segment,
+        purse: &mut Purse,
+        disk: &mut D,
+    ) -> Result<(), StreamFault>
+        requires last_some { 0 < used last }
+        requires last_within { used last ≤ length (body last) }
+        requires some { 0 < used page }
+        requires within { used page ≤ length (body page) }
+        requires none { self.old.last ≡ [] }
+        requires room { length purse.old.pages + (length (held self.old) + 2) ≤ purse.old.room }
+        requires sound { IsSound (D.told disk.old) self.old (page ∷ last ∷ purse.old.pages) }
+        ensures cause { HasWriteCause (D.fault_count disk.old) (D.fault_count disk.new) result }
+        ensures added { OnOk result (BothTold (D.told disk.old) (D.told disk.new)
+            (AddsText self.old self.new (part last ++ part page))) }
+        ensures keeps { BothTold (D.told disk.old) (D.told disk.new)
+            (Keeps self.old self.new (page ∷ last ∷ purse.old.pages) purse.new.pages) }
+        ensures segments { MovesSegments self.old self.new (page ∷ last ∷ purse.old.pages) purse.new.pages }
+        ensures room { purse.new.room ≡ purse.old.room }
+        ensures own { (self.new.room ≡ self.old.room) × (self.new.reach ≡ self.old.reach) }
+    {
+        match self.store(last, purse, disk) {
+            Ok(()) => {
+                self.put_last(page);
+                Ok(())
+            }
+            Err(fault) => {
+                purse.put(page);
+                Err(fault)
+            }
+        }
+    }
+}

@@ -1,0 +1,15 @@
+//! Lots: one worker's part of a dataset, its first pages in segments and the others spilled. It stands on
+//! runs, on pages and on segments.
+//!
+//! Its one promise: a lot with its disk stands for the bytes that were appended, in order, and every
+//! segment that went in stands in the lot or in the purse, whatever a call answers.
+#![tactic(auto)]
+
+mod append;
+mod append_page;
+pub mod laws;
+pub mod lot;
+mod page;
+mod rest;
+mod spill;
+mod store;

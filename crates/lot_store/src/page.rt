@@ -1,0 +1,74 @@
+ghost use Rattle.std.specs.Prelude.{◌≡◌, ◌+◌, ◌-◌, ◌^◌, ◌<◌, ◌≤◌, ◌↔◌, [], ◌++◌, min, length, take, IsTrue};
+ghost use Rattle.paged_view.specs.Pages.{body, part, used};
+ghost use Rattle.paged_view.specs.Writing.{written};
+ghost use Rattle.spool.specs.Headers.{IsSameSegment};
+
+use paged_view::page::{HEADER_SIZE, body_of, used_bytes};
+use segment_core::Segment;
+
+/// Writes as many of these bytes behind the used ones of a page as it has room for. How many.
+pub(crate) fn add_bytes(page: &mut Segment, bytes: &[u8]) -> usize
+    requires { used page.old ≤ length (body page.old) }
+    ensures count { result ≡ min (length bytes.now) (length (body page.old) - used page.old) }
+    ensures used { used page.new ≡ used page.old + result }
+    ensures part { part page.new ≡ part page.old ++ take result bytes.now }
+    ensures same { IsSameSegment page.old page.new }
+{
+    let filled = used_bytes(page).len();
+    let count = bytes.len().min(body_of(page).len() - filled);
+    if count == 0 {
+        return 0;
+    }
+    write_at(page, HEADER_SIZE + filled, &bytes[..count]);
+    set_used(page, filled + count);
+    count
+}
+
+/// Forgets what the page holds.
+pub(crate) fn clear(page: &mut Segment)
+    ensures used { used page.new ≡ 0 }
+    ensures part { part page.new ≡ [] }
+    ensures same { IsSameSegment page.old page.new }
+{
+    set_used(page, 0);
+}
+
+/// Says in the header how many bytes are used, where it said more than there are. How many they are.
+pub(crate) fn trim(page: &mut Segment) -> usize
+    ensures used { used page.new ≡ result }
+    ensures within { used page.new ≤ length (body page.new) }
+    ensures part { part page.new ≡ part page.old }
+    ensures count { result ≡ length (part page.old) }
+    ensures same { IsSameSegment page.old page.new }
+{
+    let filled = used_bytes(page).len();
+    set_used(page, filled);
+    filled
+}
+
+// Writes bytes over those of a page from place `at` on.
+fn write_at(page: &mut Segment, at: usize, bytes: &[u8])
+    requires { at + length bytes.now ≤ length page.old.bytes }
+    ensures { page.new ≡ written page.old at bytes.now }
+{
+    page.bytes_mut()[at..at + bytes.len()].copy_from_slice(bytes);
+}
+
+// Says in a page's header how many bytes are used.
+fn set_used(page: &mut Segment, count: usize)
+    requires { count < 2 ^ 32 }
+    ensures used { used page.new ≡ count }
+    ensures body { body page.new ≡ body page.old }
+    ensures same { IsSameSegment page.old page.new }
+{
+    let _len = page.bytes().len();
+    write_at(page, 0, &(count as u32).to_be_bytes());
+}
+
+/// Whether the page has room for another byte.
+pub(crate) fn has_space(page: &Segment) -> bool
+    requires { used page.now ≤ length (body page.now) }
+    ensures { IsTrue result ↔ (used page.now < length (body page.now)) }
+{
+    used_bytes(page).len() < body_of(page).len()
+}

@@ -1,0 +1,116 @@
+ghost use Rattle.std.specs.Prelude.{◌≡◌, ◌<◌, ◌≤◌, IfOk, OnOk, OnErr, IsSome, Some, None, length};
+ghost use Rattle.flow_outside.specs.Blocks.{BothTold};
+ghost use Rattle.flow_outside.specs.Causes.{HasCause};
+ghost use Rattle.flow_outside.specs.Told.{IfTold};
+ghost use Rattle.lot_store.specs.Spilling.{HasWriteCause, IsLonger, IsSpilled, IsUnchanged};
+ghost use Rattle.paged_view.specs.Pages.{body, part, used};
+ghost use Rattle.spool.specs.Headers.{IsSameSegment};
+ghost use Rattle.spool.specs.Runs.{IsWritten};
+
+use flow_outside::failure::{Failed, StreamFault};
+use flow_outside::spill::Spill;
+use segment_core::Segment;
+use spool::writer::RunWriter;
+
+/// Spills a page behind those that were spilled before, and begins the run with the first. It costs one
+/// write. After a fault the spilled pages are what they were.
+pub(crate) fn spill<D: Spill>(
+    run: &mut Option<RunWriter>,
+    disk: &mut D,
+    page: &mut Segment,
+) -> Result<(), StreamFault>
+    requires some { 0 < used page.old }
+    requires within { used page.old ≤ length (body page.old) }
+    requires stands { IfTold (D.told disk.old) (λ blocks. IsSpilled blocks (length page.old.bytes) run.old) }
+    ensures cause { HasWriteCause (D.fault_count disk.old) (D.fault_count disk.new) result }
+    ensures same { IsSameSegment page.old page.new }
+    ensures part { part page.new ≡ part page.old }
+    ensures longer { OnOk result (BothTold (D.told disk.old) (D.told disk.new)
+        (IsLonger (length page.old.bytes) run.old run.new page.new.bytes)) }
+    ensures refused { OnErr result (BothTold (D.told disk.old) (D.told disk.new)
+        (IsUnchanged (length page.old.bytes) run.old run.new)) }
+{
+    match run.take() {
+        Some(writer) => push_behind(run, writer, disk, page),
+        None => push_first(run, disk, page),
+    }
+}
+
+// Pushes a page behind those of a writer, which goes back to its place.
+fn push_behind<D: Spill>(
+    run: &mut Option<RunWriter>,
+    writer: RunWriter,
+    disk: &mut D,
+    page: &mut Segment,
+) -> Result<(), StreamFault>
+    requires some { 0 < used page.old }
+    requires within { used page.old ≤ length (body page.old) }
+    requires stands { IfTold (D.told disk.old) (λ blocks. IsWritten blocks (length page.old.bytes) writer) }
+    ensures cause { HasWriteCause (D.fault_count disk.old) (D.fault_count disk.new) result }
+    ensures same { IsSameSegment page.old page.new }
+    ensures part { part page.new ≡ part page.old }
+    ensures longer { OnOk result (BothTold (D.told disk.old) (D.told disk.new)
+        (IsLonger (length page.old.bytes) (Some writer) run.new page.new.bytes)) }
+    ensures refused { OnErr result (BothTold (D.told disk.old) (D.told disk.new)
+        (IsUnchanged (length page.old.bytes) (Some writer) run.new)) }
+{
+    let mut writer = writer;
+    match writer.push(disk, page) {
+        Ok(()) => {
+            *run = Some(writer);
+            Ok(())
+        }
+        Err(_) => {
+            *run = Some(writer);
+            Err(StreamFault::Spill)
+        }
+    }
+}
+
+// Begins the run with a page.
+fn push_first<D: Spill>(
+    run: &mut Option<RunWriter>,
+    disk: &mut D,
+    page: &mut Segment,
+) -> Result<(), StreamFault>
+    requires some { 0 < used page.old }
+    requires within { used page.old ≤ length (body page.old) }
+    requires none { run.old ≡ None }
+    ensures cause { HasWriteCause (D.fault_count disk.old) (D.fault_count disk.new) result }
+    ensures same { IsSameSegment page.old page.new }
+    ensures part { part page.new ≡ part page.old }
+    ensures longer { OnOk result (BothTold (D.told disk.old) (D.told disk.new)
+        (IsLonger (length page.old.bytes) None run.new page.new.bytes)) }
+    ensures refused { OnErr result (BothTold (D.told disk.old) (D.told disk.new)
+        (IsUnchanged (length page.old.bytes) None run.new)) }
+{
+    match begin(disk, page) {
+        Ok(writer) => {
+            *run = Some(writer);
+            Ok(())
+        }
+        Err(_) => Err(StreamFault::Spill),
+    }
+}
+
+// A writer with one page. After `Failed` the block that it took isn't live any more.
+fn begin<D: Spill>(disk: &mut D, page: &mut Segment) -> Result<RunWriter, Failed>
+    requires some { 0 < used page.old }
+    requires within { used page.old ≤ length (body page.old) }
+    ensures cause { HasCause (D.fault_count disk.old) (D.fault_count disk.new) result }
+    ensures same { IsSameSegment page.old page.new }
+    ensures part { part page.new ≡ part page.old }
+    ensures longer { IfOk result (λ writer. BothTold (D.told disk.old) (D.told disk.new)
+        (IsLonger (length page.old.bytes) None (Some writer) page.new.bytes)) }
+    ensures refused { OnErr result (BothTold (D.told disk.old) (D.told disk.new)
+        (IsUnchanged (length page.old.bytes) None None)) }
+{
+    let mut writer = RunWriter::start(disk)?;
+    match writer.push(disk, page) {
+        Ok(()) => Ok(writer),
+        Err(fault) => {
+            disk.free(writer.close().first);
+            Err(fault)
+        }
+    }
+}
