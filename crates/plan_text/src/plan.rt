@@ -82,7 +82,11 @@ fn segment_in(member: Option<&Value>) -> Option<u32>
         None => Some(32_768),
         Some(value) => {
             let size = number_of(value, 4096, 32_768)?;
-            if is_segment_size(size) { Some(size) } else { None }
+            if is_segment_size(size) {
+                Some(size)
+            } else {
+                None
+            }
         }
     }
 }
