@@ -1,5 +1,6 @@
 pub mod CutLemmas
-pub mod KeyLemmas
+pub mod Indexed
+pub mod KeyPieces
 pub mod Numbers
 pub mod SolutionLemmas
 pub mod Steps

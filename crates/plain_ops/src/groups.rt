@@ -1,10 +1,11 @@
 ghost use Rattle.std.specs.Prelude.{◌≡◌, ◌++◌, IfOk, take};
 ghost use Rattle.flow_types.specs.Tuples.{rank_cmp};
 ghost use Rattle.flow_types.specs.Bags.{sort_by};
-ghost use Rattle.flow_model.specs.Rows.{distinct_rows, folds_of, with_key, group_rows, top_rows, cogroup_rows};
+ghost use Rattle.flow_model.specs.Rows.{distinct_rows, folds_of, group_rows, top_rows, cogroup_rows};
 
 use crate::folds::push_folds;
-use crate::keys::{keep_each_once, keys_in, keys_of_both, with_key};
+use crate::key_index::KeyIndex;
+use crate::keys::{keep_each_once, keys_in, keys_of_both};
 use crate::lists::{append_rows, append_values, copy_rows, push_row};
 use crate::rank::sort_by_rank;
 use flow_outside::failure::Memory;
@@ -33,29 +34,22 @@ pub fn group_rows(
     ensures { IfOk result (λ groups. groups.items ≡ group_rows key.now aggs.now rows.now) }
 {
     let keys = keys_in(alloc, key, rows)?;
+    let index = KeyIndex::of(alloc, key, rows)?;
     let mut groups = Vec::new(alloc);
     for one in &keys {
-        let group = group_row(alloc, one, key, aggs, rows)?;
+        let group = group_row(alloc, one, aggs, index.with_key(one.values()))?;
         push_row(&mut groups, group)?;
     }
     Ok(groups)
 }
 
-/// The row of one key.
-fn group_row(
-    alloc: Global,
-    one: &Row,
-    key: &[u16],
-    aggs: &[Agg],
-    rows: &[Row],
-) -> Result<Row, Memory>
-    ensures { IfOk result
-        (λ row. row ≡ one.now ++ folds_of aggs.now (with_key key.now one.now rows.now)) }
+/// The row of one key, of the rows that have it.
+fn group_row(alloc: Global, key: &Row, aggs: &[Agg], rows: &[Row]) -> Result<Row, Memory>
+    ensures { IfOk result (λ row. row ≡ key.now ++ folds_of aggs.now rows.now) }
 {
-    let group = with_key(alloc, key, one.values(), rows)?;
     let mut values = Vec::new(alloc);
-    append_values(alloc, &mut values, one.values())?;
-    push_folds(&mut values, aggs, group.as_slice())?;
+    append_values(alloc, &mut values, key.values())?;
+    push_folds(&mut values, aggs, rows)?;
     Ok(Row::of(values))
 }
 
@@ -74,13 +68,13 @@ pub fn cogroup_rows(
         (λ groups. groups.items ≡ cogroup_rows left_key.now right_key.now left_aggs.now right_aggs.now left.now right.now) }
 {
     let keys = keys_of_both(alloc, left_key, right_key, left, right)?;
+    let left_index = KeyIndex::of(alloc, left_key, left)?;
+    let right_index = KeyIndex::of(alloc, right_key, right)?;
     let mut groups = Vec::new(alloc);
     for one in &keys {
         let key = one.values();
-        let left_rows = with_key(alloc, left_key, key, left)?;
-        let right_rows = with_key(alloc, right_key, key, right)?;
-        let left_group = left_rows.as_slice();
-        let right_group = right_rows.as_slice();
+        let left_group = left_index.with_key(key);
+        let right_group = right_index.with_key(key);
         let group = cogroup_row(alloc, key, left_aggs, right_aggs, left_group, right_group)?;
         push_row(&mut groups, group)?;
     }
@@ -117,9 +111,10 @@ pub fn top_rows(
     ensures { IfOk result (λ first. first.items ≡ top_rows key.now order.now count rows.now) }
 {
     let keys = keys_in(alloc, key, rows)?;
+    let index = KeyIndex::of(alloc, key, rows)?;
     let mut first = Vec::new(alloc);
     for one in &keys {
-        let mut group = with_key(alloc, key, one.values(), rows)?;
+        let mut group = copy_rows(alloc, index.with_key(one.values()))?;
         sort_by_rank(order, &mut group)?;
         group.truncate(count);
         append_rows(&mut first, group)?;

@@ -1,7 +1,8 @@
 ghost use Rattle.std.specs.Prelude.{◌≡◌, [], ◌∷◌, ◌++◌, map, IfOk, if◌then◌else◌};
-ghost use Rattle.flow_model.specs.Rows.{columns_of, with_key, partners, is_nothing, inner_rows, left_alone, right_alone, default_row, keeps_left, keeps_right, join_rows};
+ghost use Rattle.flow_model.specs.Rows.{columns_of, partners, is_nothing, inner_rows, left_alone, right_alone, default_row, keeps_left, keeps_right, join_rows};
 
-use crate::keys::{has_key, key_of};
+use crate::key_index::KeyIndex;
+use crate::keys::key_of;
 use crate::lists::{append_rows, joined, push_row};
 use crate::row_ops::columns_of;
 use flow_model::op::JoinKind;
@@ -30,33 +31,61 @@ pub fn inner_rows(
     ensures { IfOk result
         (λ rows. rows.items ≡ inner_rows meeting.now.left_key.now meeting.now.right_key.now meeting.now.columns.now left.now right.now) }
 {
+    let partners = KeyIndex::of(alloc, meeting.right_key, right)?;
+    pairs(alloc, meeting, left, &partners)
+}
+
+/// The rows of an inner join with the rows of an index.
+fn pairs(
+    alloc: Global,
+    meeting: &Meeting<'_>,
+    left: &[Row],
+    right: &KeyIndex<'_>,
+) -> Result<Vec<Row>, Memory>
+    ensures { IfOk result
+        (λ rows. rows.items ≡ inner_rows meeting.now.left_key.now right.now.key meeting.now.columns.now left.now right.now.rows) }
+{
     let mut rows = Vec::new(alloc);
     for row in left {
         let tuple = row.values();
         let key = key_of(alloc, meeting.left_key, tuple)?;
-        push_pairs(alloc, &mut rows, meeting, tuple, key.values(), right)?;
+        let partners = right.with_key(key.values());
+        push_pairs(alloc, &mut rows, meeting.columns, tuple, partners)?;
     }
     Ok(rows)
 }
 
-/// Adds the columns over a left tuple followed by each of the right rows with a key.
+/// Adds the columns over a left tuple followed by each of its partners.
 fn push_pairs(
     alloc: Global,
     rows: &mut Vec<Row>,
-    meeting: &Meeting<'_>,
+    columns: &[Expr],
     tuple: &[Value],
-    key: &[Value],
-    right: &[Row],
+    partners: &[Row],
 ) -> Result<(), Memory>
     ensures { IfOk result
-        (λ _. rows.new.items ≡ rows.old.items
-        ++ map (λ r. columns_of meeting.now.columns.now (tuple.now ++ r)) (with_key meeting.now.right_key.now key.now right.now)) }
+        (λ _. rows.new.items ≡ rows.old.items ++ map (λ r. columns_of columns.now (tuple.now ++ r)) partners.now) }
 {
-    for row in right {
-        let keep = has_key(meeting.right_key, key, row.values());
-        push_pair_if(alloc, rows, meeting.columns, tuple, row.values(), keep)?;
+    for row in partners {
+        push_pair(alloc, rows, columns, tuple, row.values())?;
     }
     Ok(())
+}
+
+/// Adds the columns over one tuple followed by another.
+fn push_pair(
+    alloc: Global,
+    rows: &mut Vec<Row>,
+    columns: &[Expr],
+    left: &[Value],
+    right: &[Value],
+) -> Result<(), Memory>
+    ensures { IfOk result
+        (λ _. rows.new.items ≡ rows.old.items ++ columns_of columns.now (left.now ++ right.now) ∷ []) }
+{
+    let both = joined(alloc, left, right)?;
+    let row = columns_of(alloc, columns, both.values())?;
+    push_row(rows, row)
 }
 
 /// Adds the columns over one tuple followed by another where `keep` says so.
@@ -75,73 +104,60 @@ fn push_pair_if(
     if !keep {
         return Ok(());
     }
-    let both = joined(alloc, left, right)?;
-    let row = columns_of(alloc, columns, both.values())?;
-    push_row(rows, row)
+    push_pair(alloc, rows, columns, left, right)
 }
 
-/// Whether no row of the other side has a row's key.
+/// Whether no row of an index has a row's key.
 fn is_alone(
     alloc: Global,
     own_key: &[u16],
-    other_key: &[u16],
-    others: &[Row],
+    others: &KeyIndex<'_>,
     tuple: &[Value],
 ) -> Result<bool, Memory>
     ensures { IfOk result
-        (λ alone. alone ≡ is_nothing (partners own_key.now other_key.now others.now tuple.now)) }
+        (λ alone. alone ≡ is_nothing (partners own_key.now others.now.key others.now.rows tuple.now)) }
 {
     let key = key_of(alloc, own_key, tuple)?;
-    Ok(none_has_key(other_key, key.values(), others))
+    Ok(others.with_key(key.values()).is_empty())
 }
 
-/// Whether no row has a key.
-fn none_has_key(numbers: &[u16], key: &[Value], rows: &[Row]) -> bool
-    ensures { result ≡ is_nothing (with_key numbers.now key.now rows.now) }
-{
-    for row in rows {
-        if has_key(numbers, key, row.values()) {
-            return false;
-        }
-    }
-    true
-}
-
-/// The left rows without a partner, each followed by the right side's default.
+/// The left rows without a partner among the rows of an index, each followed by the right side's
+/// default.
 fn left_alone(
     alloc: Global,
     meeting: &Meeting<'_>,
     default: &[Value],
     left: &[Row],
-    right: &[Row],
+    right: &KeyIndex<'_>,
 ) -> Result<Vec<Row>, Memory>
     ensures { IfOk result
-        (λ rows. rows.items ≡ left_alone meeting.now.left_key.now meeting.now.right_key.now meeting.now.columns.now default.now left.now right.now) }
+        (λ rows. rows.items ≡ left_alone meeting.now.left_key.now right.now.key meeting.now.columns.now default.now left.now right.now.rows) }
 {
     let mut rows = Vec::new(alloc);
     for row in left {
         let tuple = row.values();
-        let keep = is_alone(alloc, meeting.left_key, meeting.right_key, right, tuple)?;
+        let keep = is_alone(alloc, meeting.left_key, right, tuple)?;
         push_pair_if(alloc, &mut rows, meeting.columns, tuple, default, keep)?;
     }
     Ok(rows)
 }
 
-/// The left side's default, followed by each of the right rows without a partner.
+/// The left side's default, followed by each of the right rows without a partner among the rows of an
+/// index.
 fn right_alone(
     alloc: Global,
     meeting: &Meeting<'_>,
     default: &[Value],
-    left: &[Row],
+    left: &KeyIndex<'_>,
     right: &[Row],
 ) -> Result<Vec<Row>, Memory>
     ensures { IfOk result
-        (λ rows. rows.items ≡ right_alone meeting.now.left_key.now meeting.now.right_key.now meeting.now.columns.now default.now left.now right.now) }
+        (λ rows. rows.items ≡ right_alone left.now.key meeting.now.right_key.now meeting.now.columns.now default.now left.now.rows right.now) }
 {
     let mut rows = Vec::new(alloc);
     for row in right {
         let tuple = row.values();
-        let keep = is_alone(alloc, meeting.right_key, meeting.left_key, left, tuple)?;
+        let keep = is_alone(alloc, meeting.right_key, left, tuple)?;
         push_pair_if(alloc, &mut rows, meeting.columns, default, tuple, keep)?;
     }
     Ok(rows)
@@ -185,13 +201,15 @@ pub fn join_rows(
     ensures { IfOk result
         (λ rows. rows.items ≡ join_rows kind meeting.now.left_key.now meeting.now.right_key.now meeting.now.columns.now left_default.now right_default.now left.now right.now) }
 {
-    let mut rows = inner_rows(alloc, meeting, left, right)?;
+    let partners = KeyIndex::of(alloc, meeting.right_key, right)?;
+    let mut rows = pairs(alloc, meeting, left, &partners)?;
     if keeps_left(kind) {
-        let alone = left_alone(alloc, meeting, default_row(right_default), left, right)?;
+        let alone = left_alone(alloc, meeting, default_row(right_default), left, &partners)?;
         append_rows(&mut rows, alone)?;
     }
     if keeps_right(kind) {
-        let alone = right_alone(alloc, meeting, default_row(left_default), left, right)?;
+        let partners = KeyIndex::of(alloc, meeting.left_key, left)?;
+        let alone = right_alone(alloc, meeting, default_row(left_default), &partners, right)?;
         append_rows(&mut rows, alone)?;
     }
     Ok(rows)

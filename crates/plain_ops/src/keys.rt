@@ -1,9 +1,9 @@
 ghost use Rattle.std.specs.Prelude.{◌≡◌, ◌++◌, map, IfOk};
 ghost use Rattle.flow_types.specs.Tuples.{key_of};
-ghost use Rattle.flow_model.specs.Rows.{has_key, with_key, each_once, keys_in, keys_of_both};
+ghost use Rattle.flow_model.specs.Rows.{each_once, keys_in, keys_of_both};
 
-use crate::lists::{push_if, push_row, push_value};
-use crate::values::{compare_field, copy_field};
+use crate::lists::{push_row, push_value};
+use crate::values::copy_field;
 use flow_outside::failure::Memory;
 use flow_types::row::{Row, compare_rows, sort_rows};
 use flow_types::value::Value;
@@ -19,38 +19,6 @@ pub fn key_of(alloc: Global, numbers: &[u16], tuple: &[Value]) -> Result<Row, Me
         push_value(&mut values, value)?;
     }
     Ok(Row::of(values))
-}
-
-/// Whether a tuple has a key: its values at the key's field numbers are these. They are compared in
-/// place.
-pub fn has_key(numbers: &[u16], key: &[Value], tuple: &[Value]) -> bool
-    ensures { result ≡ has_key numbers.now key.now tuple.now }
-{
-    if numbers.len() != key.len() {
-        return false;
-    }
-    for i in 0..numbers.len() {
-        if compare_field(tuple, numbers[i], &key[i]).is_ne() {
-            return false;
-        }
-    }
-    true
-}
-
-/// Copies of the rows that have a key, in order.
-pub fn with_key(
-    alloc: Global,
-    numbers: &[u16],
-    key: &[Value],
-    rows: &[Row],
-) -> Result<Vec<Row>, Memory>
-    ensures { IfOk result (λ kept. kept.items ≡ with_key numbers.now key.now rows.now) }
-{
-    let mut kept = Vec::new(alloc);
-    for row in rows {
-        push_if(alloc, &mut kept, row, has_key(numbers, key, row.values()))?;
-    }
-    Ok(kept)
 }
 
 /// Puts rows into ascending order, each once.

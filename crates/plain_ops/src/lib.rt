@@ -1,8 +1,9 @@
 //! The operations of the algebra, one by one, over lists of rows in memory: expressions, folds, joins,
 //! groups, and the solutions of delta iterations. It stands on the definitions of `flow_model`.
 //!
-//! Its one promise: each operation gives exactly the definition's list, in its order. It is slow: it
-//! goes as the definitions go.
+//! Its one promise: each operation gives exactly the definition's list, in its order. It goes as the
+//! definitions go, but where they speak of the rows with a key it finds them in an index, so that the
+//! cost is about n log n comparisons and what is made.
 #![tactic(auto)]
 
 mod arithmetic;
@@ -11,6 +12,7 @@ mod folds;
 pub mod groups;
 pub mod held;
 pub mod join;
+mod key_index;
 mod keys;
 pub mod lists;
 mod rank;

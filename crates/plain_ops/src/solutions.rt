@@ -3,8 +3,9 @@ ghost use Rattle.flow_model.specs.Solutions.{chosen, greatest_row, candidates, n
 
 use crate::held::Held;
 use crate::join::{Meeting, inner_rows};
-use crate::keys::{keys_in, keys_of_both, with_key};
-use crate::lists::{append_rows, push_row};
+use crate::key_index::KeyIndex;
+use crate::keys::{keys_in, keys_of_both};
+use crate::lists::{append_rows, copy_rows, push_row};
 use crate::rank::sort_by_rank;
 use flow_model::op::MergeRule;
 use flow_outside::failure::Memory;
@@ -23,9 +24,10 @@ pub fn chosen(
     ensures { IfOk result (λ entries. entries.items ≡ chosen key.now order.now rows.now) }
 {
     let keys = keys_in(alloc, key, rows)?;
+    let index = KeyIndex::of(alloc, key, rows)?;
     let mut entries = Vec::new(alloc);
     for one in &keys {
-        let candidates = with_key(alloc, key, one.values(), rows)?;
+        let candidates = copy_rows(alloc, index.with_key(one.values()))?;
         push_greatest(&mut entries, order, candidates)?;
     }
     Ok(entries)
@@ -60,11 +62,13 @@ pub fn merged(
         (λ entries. entries.items ≡ merged key.now order.now merge old.now deltas.now) }
 {
     let keys = keys_of_both(alloc, key, key, old, deltas)?;
+    let old_index = KeyIndex::of(alloc, key, old)?;
+    let delta_index = KeyIndex::of(alloc, key, deltas)?;
     let mut entries = Vec::new(alloc);
     for one in &keys {
         let one = one.values();
-        let entry = with_key(alloc, key, one, old)?;
-        let changes = with_key(alloc, key, one, deltas)?;
+        let entry = copy_rows(alloc, old_index.with_key(one))?;
+        let changes = copy_rows(alloc, delta_index.with_key(one))?;
         push_next(&mut entries, order, merge, entry, changes)?;
     }
     Ok(entries)

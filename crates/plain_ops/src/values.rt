@@ -72,6 +72,15 @@ pub fn compare_field(tuple: &[Value], number: u16, value: &Value) -> Ordering
     compare(field_or(tuple, number, &zero), value)
 }
 
+/// The order of two tuples by a field, by its number from 0; the field is the Long 0 where a tuple
+/// ends before it.
+pub fn compare_fields(number: u16, a: &[Value], b: &[Value]) -> Ordering
+    ensures { result ≡ value_cmp (field number a.now) (field number b.now) }
+{
+    let zero = Value::Long(0);
+    compare(field_or(a, number, &zero), field_or(b, number, &zero))
+}
+
 /// A copy of a field, by its number from 0; the Long 0 where the tuple ends before it.
 pub fn copy_field(alloc: Global, tuple: &[Value], number: u16) -> Result<Value, Memory>
     ensures { IfOk result (λ v. v ≡ field number tuple.now) }
