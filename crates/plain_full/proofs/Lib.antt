@@ -1,0 +1,5 @@
+pub mod FindLemmas
+pub mod FullLemmas
+pub mod HashLemmas
+pub mod NeedLemmas
+pub mod WalkLemmas
