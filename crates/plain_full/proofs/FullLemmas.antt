@@ -1,5 +1,5 @@
 -- The first demand, looked for step by step, is the first of all demands.
-use Rattle.std.proofs.Common.{◌≡◌, ℕ, suc, List, [], ◌∷◌, map, find, flat_map, Option, Some, None, refl, sym, ap, ◌∙◌}
+use Rattle.std.proofs.Common.{◌≡◌, ℕ, suc, List, [], ◌∷◌, map, find, flat_map, refl, sym, ap, ◌∙◌}
 use Rattle.std.specs.Option.{option_or}
 use Rattle.std.proofs.lemmas.List.Folds.{find-append}
 use Rattle.flow_model.specs.declared.op.Op.{Op}
@@ -8,7 +8,7 @@ use Rattle.flow_model.specs.declared.plan.Node.{Node}
 use Rattle.flow_model.specs.declared.plan.Plan.{Plan}
 use Rattle.flow_model.specs.Env.{Tuples}
 use Rattle.flow_model.specs.Algebra.{Env, given, source_numbers, DeltaState, delta_states, Moment, moments_of}
-use Rattle.flow_model.specs.Full.{Demand, numbers_below, demand, demands_of_states, demands_of_op, demands, solution_bytes, full}
+use Rattle.flow_model.specs.Full.{Demand, numbers_below, demand, demands_of_states, demands_of_op, solution_bytes, full}
 use Rattle.plain_full.specs.Demands.{is_above, first_of_state, first_of_states, first_of_op, first_of_moments, first_of_nodes}
 
 module _ (plan : Plan) (workers budget : ℕ) where

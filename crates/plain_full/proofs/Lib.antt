@@ -1,5 +1,4 @@
 pub mod FindLemmas
 pub mod FullLemmas
 pub mod HashLemmas
-pub mod NeedLemmas
 pub mod WalkLemmas

@@ -1,20 +1,16 @@
--- A walk along a plan's nodes: those of a body are passed over.
-use Rattle.std.proofs.Common.{◌≡◌, ◌≢◌, ℕ, ◌+◌, ◌<◌, Bool, true, false, cond, eqb, List, [], ◌∷◌, length, get_or, drop, filter, Option, Some, None, is_some, option_map, sym, ap, ◌∙◌, arith}
+-- A walk along a plan's nodes, at one that has a demand above what is there.
+use Rattle.std.proofs.Common.{◌≡◌, ℕ, ◌+◌, ◌<◌, Bool, true, cond, eqb, List, ◌∷◌, length, get_or, drop, Option, Some, None, is_some, option_map, sym, ap, ◌∙◌, arith}
 use Rattle.std.specs.Option.{option_or}
 use Rattle.std.proofs.lemmas.Bool.Decides.{nat_tests}
 use Rattle.std.proofs.lemmas.List.{at_drop_more}
 use Rattle.flow_model.specs.declared.plan.Node.{Node}
-use Rattle.flow_model.specs.Env.{Tuples}
-use Rattle.flow_model.specs.Algebra.{Env, Moment, moments, nodes_of, node_rows, and_rows, outer_step}
+use Rattle.flow_model.specs.Algebra.{Env, moments, nodes_of, outer_step}
 use Rattle.flow_model.specs.Full.{Demand}
 use Rattle.plain_full.specs.declared.demand.Demand as code
 use Rattle.plain_full.specs.Demands.{seen, first_of_op, first_of_moments, first_of_nodes}
 
 is_outer : (home : ℕ) → home ≡ 0 → eqb home 0 ≡ true
 is_outer home h = grind (arith, nat_tests)
-
-is_inner : (home : ℕ) → home ≢ 0 → eqb home 0 ≡ false
-is_inner home h = grind (arith, nat_tests)
 
 module _ (workers have : ℕ) (inputs : Env) (all : List Node) where
   -- the first demand of what stands from a node on
@@ -30,17 +26,6 @@ module _ (workers have : ℕ) (inputs : Env) (all : List Node) where
       at_drop_more (from env) nodes i node h
       ∙ ap (λ n. from env (n ∷ drop (i + 1) nodes)) (sym is)
       ∙ ap (from_if env node (drop (i + 1) nodes)) home
-
-  -- a node of a body
-  pub walk-skips : (env : Env) (nodes : List Node) (i : ℕ) (node : Node) → i < length nodes → node ≡ get_or nodes i node → node.home ≢ 0 → from env (drop i nodes) ≡ from env (drop (i + 1) nodes)
-  walk-skips env nodes i node h is home = split env nodes i node false h is (is_inner node.home home)
-
-  -- a node that has no demand above what is there
-  pub walk-passes : (env after : Env) (nodes : List Node) (i : ℕ) (node : Node) → i < length nodes → node ≡ get_or nodes i node → node.home ≡ 0 → first_of_op workers have inputs all env node.number node.op ≡ None → after ≡ outer_step inputs all env node → from env (drop i nodes) ≡ from after (drop (i + 1) nodes)
-  walk-passes env after nodes i node h is home none step =
-      split env nodes i node true h is (is_outer node.home home)
-      ∙ ap (λ o. option_or o (from (outer_step inputs all env node) (drop (i + 1) nodes))) none
-      ∙ ap (λ e. from e (drop (i + 1) nodes)) (sym step)
 
   -- a node that has one
   pub walk-finds : (first : Option code.Demand) (env : Env) (nodes : List Node) (i : ℕ) (node : Node) → is_some first ≡ true → i < length nodes → node ≡ get_or nodes i node → node.home ≡ 0 → option_map seen first ≡ first_of_op workers have inputs all env node.number node.op → option_map seen first ≡ from env (drop i nodes)

@@ -1,4 +1,4 @@
-use Rattle.std.proofs.Common.{◌≡◌, true, is_some, sym, ap, ◌∙◌}
+use Rattle.std.proofs.Common.{◌≡◌, true, is_some, sym, ◌∙◌}
 use Rattle.flow_model.specs.Algebra.{Env, given, source_numbers}
 use Rattle.plain_full.proofs.WalkLemmas.{walk-finds}
 use Rattle.plain_full.proofs.fullness.first_of_nodes.Goals as goal

@@ -1,4 +1,4 @@
-use Rattle.std.proofs.Common.{◌≡◌, ◌+◌, ◌-◌, ℕ, Bool, true, false, not, List, None, is_some, option_map, sym, ap, subst, ◌∙◌, arith}
+use Rattle.std.proofs.Common.{◌≡◌, ◌+◌, ◌-◌, Bool, true, not, is_some, option_map, sym, ap, subst, ◌∙◌, arith}
 use Rattle.std.specs.Prelude.{IfOk, Option}
 use Rattle.flow_model.specs.Rows.{is_nothing}
 use Rattle.flow_model.specs.Algebra.{Env, given, source_numbers, DeltaState, delta_next}
