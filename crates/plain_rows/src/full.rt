@@ -5,21 +5,21 @@ use plan_check::check::plan_from;
 use std::alloc::Global;
 
 /// A solution of two Longs that is loaded and never changed; node 3 is the iteration.
-pub const LOAD: &str = r#"{"version":1,"segment":4096,"nodes":[
+pub const LOADED: &str = r#"{"version":1,"segment":4096,"nodes":[
 {"name":"init","op":"source","fields":["long","long"]},
 {"name":"none","op":"filter","input":"init","test":false},
 {"name":"it","op":"delta","solution":"init","workset":"none","bind":"w","key":[0],"order":[],"merge":"replace","max":5,"body":[],"delta":"w","next":"w"}
 ],"result":"it"}"#;
 
 /// One superstep that puts the second input into the first; node 3 is the iteration.
-pub const SWAP: &str = r#"{"version":1,"segment":4096,"nodes":[
+pub const SWAPPED: &str = r#"{"version":1,"segment":4096,"nodes":[
 {"name":"init","op":"source","fields":["long","str:1000"]},
 {"name":"change","op":"source","fields":["long","str:1000"]},
 {"name":"it","op":"delta","solution":"init","workset":"change","bind":"w","key":[0],"order":[],"merge":"replace","max":5,"body":[{"name":"none","op":"filter","input":"w","test":false}],"delta":"w","next":"none"}
 ],"result":"it"}"#;
 
 /// A plan without an iteration.
-pub const FILTER: &str = r#"{"version":1,"segment":4096,"nodes":[
+pub const FILTERED: &str = r#"{"version":1,"segment":4096,"nodes":[
 {"name":"t","op":"source","fields":["long","long"]},
 {"name":"big","op":"filter","input":"t","test":["gt",["f",0],1]}
 ],"result":"big"}"#;

@@ -1,4 +1,4 @@
-use crate::full::{FILTER, LOAD, SWAP, counted, first_full, long_texts};
+use crate::full::{FILTERED, LOADED, SWAPPED, counted, first_full, long_texts};
 use crate::plans::{Kind, Step, result};
 
 // The number of a node is its place from 1. A node's numbers are those of its inputs, and then those
@@ -195,7 +195,7 @@ fn loads_are_full_where_they_are_above(rt: HostRuntime) {
     for (count, workers, budget, want) in cases {
         let rows = counted(alloc, count).expect(&rt, "no rows");
         let found =
-            first_full(alloc, LOAD, rows.as_str(), workers, budget).expect(&rt, "no answer");
+            first_full(alloc, LOADED, rows.as_str(), workers, budget).expect(&rt, "no answer");
         assert_eq!(rt; found.as_str(), want, "{count}");
     }
 }
@@ -225,13 +225,13 @@ fn swaps_are_full_where_they_are_above(rt: HostRuntime) {
     for (lengths, workers, budget, want) in cases {
         let rows = long_texts(alloc, lengths).expect(&rt, "no rows");
         let found =
-            first_full(alloc, SWAP, rows.as_str(), workers, budget).expect(&rt, "no answer");
+            first_full(alloc, SWAPPED, rows.as_str(), workers, budget).expect(&rt, "no answer");
         assert_eq!(rt; found.as_str(), want, "{lengths}");
     }
 }
 
 #[test]
 fn no_iteration_is_never_full(rt: HostRuntime) {
-    let found = first_full(rt.alloc(), FILTER, "1,2 / 3,4", 1, 16).expect(&rt, "no answer");
+    let found = first_full(rt.alloc(), FILTERED, "1,2 / 3,4", 1, 16).expect(&rt, "no answer");
     assert_eq!(rt; found.as_str(), "-");
 }
