@@ -48,18 +48,23 @@ module _ (inputs : Env) (nodes : List Node) (env : Env) (number next : ℕ) wher
       last-stops (λ (t : BulkState). not t.ended) (bulk_next inputs nodes env number next until) left (bulk_state rows ended) (bulk_state rows ended) (ap not h)
 
   module _ (key : List ℕ) (order : List OrderItem) (merge : MergeRule) (delta : ℕ) where
+    -- the state that a superstep makes of another one
+    pub next_is : (s : DeltaState) (held : Solution) (workset entries after : Tuples) (made : Env) → workset ≡ s.workset → held ≡ solution key s.entries → made ≡ superstep inputs nodes held env number workset → entries ≡ merged key order merge held.entries (rows_at made delta) → after ≡ rows_at made next → delta_state entries after ≡ delta_next inputs nodes env number key order merge delta next s
+    next_is s held workset entries after made work own step merging took =
+        let same : Env = superstep inputs nodes (solution key s.entries) env number s.workset in
+        let made_is : made ≡ same = step ∙ ap (λ h. superstep inputs nodes h env number workset) own ∙ ap (superstep inputs nodes (solution key s.entries) env number) work in
+        let entries_are : entries ≡ merged key order merge s.entries (rows_at same delta) = merging ∙ ap (λ (h : Solution). merged key order merge h.entries (rows_at made delta)) own ∙ ap (λ m. merged key order merge s.entries (rows_at m delta)) made_is in
+        let after_is : after ≡ rows_at same next = took ∙ ap (λ m. rows_at m next) made_is in
+        ap (λ e. delta_state e after) entries_are ∙ ap (delta_state (merged key order merge s.entries (rows_at same delta))) after_is
+
     -- a superstep of a delta iteration
-    pub delta_turn : (left fewer : ℕ) (held : Solution) (workset entries after : Tuples) (made : Env) → left ≡ suc fewer → held.key ≡ key → is_nothing workset ≡ false → made ≡ superstep inputs nodes held env number workset → entries ≡ merged key order merge held.entries (rows_at made delta) → after ≡ rows_at made next → delta_last inputs nodes env number key order merge delta next left (delta_state held.entries workset) ≡ delta_last inputs nodes env number key order merge delta next fewer (delta_state entries after)
-    delta_turn left fewer held workset entries after made less own some step merging took =
-        let goes : DeltaState → Bool = λ t. not (is_nothing t.workset) in
+    pub delta_turn : (left fewer : ℕ) (s t : DeltaState) → left ≡ suc fewer → is_nothing s.workset ≡ false → t ≡ delta_next inputs nodes env number key order merge delta next s → delta_last inputs nodes env number key order merge delta next left s ≡ delta_last inputs nodes env number key order merge delta next fewer t
+    delta_turn left fewer s t less some step =
+        let goes : DeltaState → Bool = λ r. not (is_nothing r.workset) in
         let onward : DeltaState → DeltaState = delta_next inputs nodes env number key order merge delta next in
-        let before : DeltaState = delta_state held.entries workset in
-        let same : Env = superstep inputs nodes (solution key held.entries) env number workset in
-        let made_is : made ≡ same = step ∙ ap (λ k. superstep inputs nodes (solution k held.entries) env number workset) own in
-        let last : onward before ≡ delta_state entries after = ap (λ m. delta_state (merged key order merge held.entries (rows_at m delta)) (rows_at m next)) (sym made_is) ∙ ap (λ e. delta_state e (rows_at made next)) (sym merging) ∙ ap (delta_state entries) (sym took) in
-        last-turn goes onward left fewer before (delta_state entries after) before less (ap not some) ∙ ap (λ s. last_state (delta_state entries after) (states goes onward fewer s)) last
+        last-turn goes onward left fewer s t s less (ap not some) ∙ ap (λ r. last_state t (states goes onward fewer r)) (sym step)
 
     -- a delta iteration that has no workset
-    pub delta_end : (left : ℕ) (entries workset : Tuples) → is_nothing workset ≡ true → delta_last inputs nodes env number key order merge delta next left (delta_state entries workset) ≡ delta_state entries workset
-    delta_end left entries workset h =
-        last-stops (λ (t : DeltaState). not (is_nothing t.workset)) (delta_next inputs nodes env number key order merge delta next) left (delta_state entries workset) (delta_state entries workset) (ap not h)
+    pub delta_end : (left : ℕ) (s : DeltaState) → is_nothing s.workset ≡ true → delta_last inputs nodes env number key order merge delta next left s ≡ s
+    delta_end left s h =
+        last-stops (λ (r : DeltaState). not (is_nothing r.workset)) (delta_next inputs nodes env number key order merge delta next) left s s (ap not h)

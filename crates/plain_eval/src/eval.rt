@@ -3,8 +3,9 @@ ghost use Rattle.flow_model.specs.Algebra.{source_numbers, given, node_rows, eva
 ghost use Rattle.plain_eval.specs.Iterations.{bulk_node_rows, delta_node_rows};
 
 use crate::body::plain_rows;
+use crate::delta::Delta;
 use crate::env::{push_made, take_rows};
-use crate::iterate::{Bulk, Delta, bulk_rows, delta_rows};
+use crate::iterate::{Bulk, bulk_rows, delta_rows};
 use flow_model::made::Made;
 use flow_model::op::Op;
 use flow_model::plan::{Node, Plan};
@@ -39,7 +40,7 @@ pub fn eval_rows(alloc: Global, plan: &Plan, inputs: &Inputs) -> Result<Rows, Me
 
 /// The rows of a node of the outer list; an iteration gives the rows of its last state. What was made
 /// before stays as it was.
-fn node_rows(
+pub fn node_rows(
     alloc: Global,
     nodes: &[Node],
     inputs: &[Rows],

@@ -3,10 +3,13 @@
 //! by one in `plain_ops`.
 //!
 //! Its one promise: `eval_rows` gives exactly the rows that the algebra gives of a plan's inputs, in
-//! the algebra's order. It is slow: it goes as the definitions go.
+//! the algebra's order. It is slow: it goes as the definitions go. What it does with one node and with
+//! one state of a delta iteration can be called by itself.
 #![tactic(auto)]
 
 mod body;
-mod env;
+pub mod delta;
+pub mod env;
 pub mod eval;
 mod iterate;
+pub mod state;

@@ -57,10 +57,13 @@ pub fn add(place: Place, nodes: &mut Vec<Node>, home: u32, op: Op) -> Option<()>
     }
 }
 
-/// The value of a field: a Long where it is one, and else a text.
+/// The value of a field: a Long or a Bool where it is one, and else a text.
 pub fn value(alloc: Global, field: &str) -> Option<Value> {
     if let Ok(number) = field.parse::<i64>() {
         return Some(Value::Long(number));
+    }
+    if let Ok(flag) = field.parse::<bool>() {
+        return Some(Value::Bool(flag));
     }
     let text = Text::of(String::from_str(alloc, field).ok()?)?;
     Some(Value::Str(text))
@@ -87,7 +90,7 @@ fn rows(alloc: Global, lines: &str) -> Option<Rows> {
 }
 
 /// The inputs of a text such as `1,ann / 3,cy + 5,7`, one for each source.
-fn inputs(alloc: Global, texts: &str) -> Option<Inputs> {
+pub fn inputs(alloc: Global, texts: &str) -> Option<Inputs> {
     let mut inputs = Vec::new(alloc);
     for lines in texts.split(" + ") {
         let rows = rows(alloc, lines)?;

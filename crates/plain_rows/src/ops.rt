@@ -88,6 +88,38 @@ pub fn test_number(alloc: Global, input: u32, op: BinOp, number: i64) -> Option<
     Some(Op::Filter { input, test })
 }
 
+/// A map to field 0 with field 1 behind it.
+pub fn both_texts(alloc: Global, input: u32) -> Option<Op> {
+    let left = Boxed::new(alloc, Expr::Field(0)).ok()?;
+    let right = Boxed::new(alloc, Expr::Field(1)).ok()?;
+    let mut columns = Items::new(alloc);
+    columns.push(Expr::Bin(BinOp::Cat, left, right)).ok()?;
+    Some(Op::Map { input, columns })
+}
+
+/// A map to at most two bytes of field 0, and field 1.
+pub fn cut_text(alloc: Global, input: u32) -> Option<Op> {
+    let text = Boxed::new(alloc, Expr::Field(0)).ok()?;
+    let mut columns = Items::new(alloc);
+    columns.push(Expr::Cut(text, 2)).ok()?;
+    columns.push(Expr::Field(1)).ok()?;
+    Some(Op::Map { input, columns })
+}
+
+/// A filter of the rows whose field 0 is true.
+pub fn kept(input: u32) -> Op {
+    Op::Filter {
+        input,
+        test: Expr::Field(0),
+    }
+}
+
+/// A union of two inputs.
+pub fn union(alloc: Global, left: u32, right: u32) -> Option<Op> {
+    let inputs = Items::from_slice(alloc, &[left, right]).ok()?;
+    Some(Op::Union { inputs })
+}
+
 /// A filter of the rows whose field 1 is less than field 2.
 pub fn lower(alloc: Global, input: u32) -> Option<Op> {
     let left = Boxed::new(alloc, Expr::Field(1)).ok()?;
@@ -159,8 +191,8 @@ pub fn join(alloc: Global, n: [u16; 4], right_field: u16) -> Option<Op> {
     })
 }
 
-/// A full join by field 0, to all fields.
-pub fn full_join(alloc: Global, left: u32, right: u32) -> Option<Op> {
+/// An outer join by field 0, to all fields.
+pub fn outer_join(alloc: Global, left: u32, right: u32, kind: JoinKind) -> Option<Op> {
     let left_key = key(alloc, &[0])?;
     let right_key = key(alloc, &[0])?;
     let columns = fields(alloc, &[0, 1, 2, 3])?;
@@ -172,7 +204,7 @@ pub fn full_join(alloc: Global, left: u32, right: u32) -> Option<Op> {
         left_key,
         right_key,
         columns,
-        kind: JoinKind::Full,
+        kind,
         left_default: Some(left_default),
         right_default: Some(right_default),
     })

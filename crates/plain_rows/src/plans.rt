@@ -1,9 +1,9 @@
 use crate::fixtures::{add, evaluated, next_place};
 use crate::ops::{
-    arithmetic, best, both_ways, bulk, cogroup, delta, full_join, group, join, lengths, lower, map,
-    map_number, nothing, probe, source, test_number,
+    arithmetic, best, both_texts, both_ways, bulk, cogroup, cut_text, delta, group, join, kept,
+    lengths, lower, map, map_number, nothing, outer_join, probe, source, test_number, union,
 };
-use flow_model::op::{MergeRule, Op};
+use flow_model::op::{JoinKind, MergeRule, Op};
 use flow_model::plan::Node;
 use flow_types::agg::Agg;
 use flow_types::expr::BinOp;
@@ -26,12 +26,22 @@ pub enum Kind {
     More,
     /// A map to field 0 divided by -1 and by 0, and what is left of it by 3.
     Arithmetic,
+    /// A map to whether field 0 is above 100.
+    IsAbove,
+    /// A map to field 0 with field 1 behind it.
+    Texts,
+    /// A map to at most two bytes of field 0, and field 1.
+    Cut,
     /// A filter of field 0 above 100.
     Above,
+    /// A filter of field 0 true.
+    Kept,
     /// A filter of field 1 below field 2.
     Lower,
     /// A filter that no row passes.
     Nothing,
+    /// Two inputs, one after the other.
+    Union,
     Distinct,
     /// The sum of field 0 over all rows.
     Sum,
@@ -47,6 +57,10 @@ pub enum Kind {
     Join,
     /// An inner join of field 0 with field 1, to two fields.
     Orders,
+    /// A left join by field 0, to all fields.
+    Left,
+    /// A right join by field 0, to all fields.
+    Right,
     /// A full join by field 0, to all fields.
     Full,
     /// A cogroup by field 0: the sum of the left field 1, the count and the least field 1 on the right.
@@ -90,9 +104,14 @@ fn op_of(alloc: Global, kind: Kind, n: [u16; 4]) -> Option<Op> {
         Kind::Lengths => lengths(alloc, first),
         Kind::More => map_number(alloc, first, BinOp::Add, 1),
         Kind::Arithmetic => arithmetic(alloc, first),
+        Kind::IsAbove => map_number(alloc, first, BinOp::Gt, 100),
+        Kind::Texts => both_texts(alloc, first),
+        Kind::Cut => cut_text(alloc, first),
         Kind::Above => test_number(alloc, first, BinOp::Gt, 100),
+        Kind::Kept => Some(kept(first)),
         Kind::Lower => lower(alloc, first),
         Kind::Nothing => Some(nothing(first)),
+        Kind::Union => union(alloc, first, second),
         Kind::Distinct => Some(Op::Distinct { input: first }),
         Kind::Sum => group(alloc, first, &[], &[Agg::Sum(0)]),
         Kind::Count => group(alloc, first, &[0], &[Agg::Count]),
@@ -101,7 +120,9 @@ fn op_of(alloc: Global, kind: Kind, n: [u16; 4]) -> Option<Op> {
         Kind::Best => best(alloc, first),
         Kind::Join => join(alloc, n, 0),
         Kind::Orders => join(alloc, n, 1),
-        Kind::Full => full_join(alloc, first, second),
+        Kind::Left => outer_join(alloc, first, second, JoinKind::Left),
+        Kind::Right => outer_join(alloc, first, second, JoinKind::Right),
+        Kind::Full => outer_join(alloc, first, second, JoinKind::Full),
         Kind::Cogroup => cogroup(alloc, first, second),
         Kind::Bulk => bulk(alloc, n),
         Kind::Lowering => delta(alloc, n, true, MergeRule::Greatest),

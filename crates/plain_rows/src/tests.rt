@@ -1,3 +1,4 @@
+use crate::full::{FILTERED, LOADED, SWAPPED, counted, first_full, long_texts};
 use crate::plans::{Kind, Step, result};
 
 // The number of a node is its place from 1. A node's numbers are those of its inputs, and then those
@@ -48,6 +49,40 @@ const OUTER: [Step; 3] = [
     (0, Kind::Full, [1, 2, 0, 0]),
 ];
 
+const LEFT: [Step; 3] = [
+    (0, Kind::Source, [0; 4]),
+    (0, Kind::Source, [0; 4]),
+    (0, Kind::Left, [1, 2, 0, 0]),
+];
+
+const RIGHT: [Step; 3] = [
+    (0, Kind::Source, [0; 4]),
+    (0, Kind::Source, [0; 4]),
+    (0, Kind::Right, [1, 2, 0, 0]),
+];
+
+const UNION: [Step; 3] = [
+    (0, Kind::Source, [0; 4]),
+    (0, Kind::Source, [0; 4]),
+    (0, Kind::Union, [1, 2, 0, 0]),
+];
+
+/// Texts, one behind the other, and cut.
+const TEXTS: [Step; 3] = [
+    (0, Kind::Source, [0; 4]),
+    (0, Kind::Texts, [1, 0, 0, 0]),
+    (0, Kind::Cut, [1, 0, 0, 0]),
+];
+
+/// Bools as a key, as a test and as a column.
+const FLAGS: [Step; 5] = [
+    (0, Kind::Source, [0; 4]),
+    (0, Kind::Totals, [1, 0, 0, 0]),
+    (0, Kind::Kept, [1, 0, 0, 0]),
+    (0, Kind::Field, [1, 1, 0, 0]),
+    (0, Kind::IsAbove, [4, 0, 0, 0]),
+];
+
 const COGROUP: [Step; 3] = [
     (0, Kind::Source, [0; 4]),
     (0, Kind::Source, [0; 4]),
@@ -80,7 +115,7 @@ type Case = (&'static [Step], u32, &'static str, &'static str);
 // What the examples' authors say.
 #[test]
 fn examples_give_their_rows(rt: HostRuntime) {
-    let cases: [Case; 12] = [
+    let cases: [Case; 20] = [
         (
             &COMPONENTS,
             6,
@@ -109,6 +144,14 @@ fn examples_give_their_rows(rt: HostRuntime) {
             "1,x / 2,y + 2,7 / 3,8",
             "0,-,3,8 / 1,x,0,0 / 2,y,2,7",
         ),
+        (&LEFT, 3, "1,x / 2,y + 2,7 / 3,8", "1,x,0,0 / 2,y,2,7"),
+        (&RIGHT, 3, "1,x / 2,y + 2,7 / 3,8", "0,-,3,8 / 2,y,2,7"),
+        (&UNION, 3, "1,x / 2,y + 2,y / 3,z", "1,x / 2,y / 2,y / 3,z"),
+        (&TEXTS, 2, "b,bc / a, / b,d", "a / bbc / bd"),
+        (&TEXTS, 3, "abc,1 / aé,2 / €,3 / é,4 / x,5", ",3 / a,2 / ab,1 / x,5 / é,4"),
+        (&FLAGS, 2, "true,1 / false,200 / true,5", "false,200,1 / true,6,2"),
+        (&FLAGS, 3, "true,1 / false,200 / true,5", "true,1 / true,5"),
+        (&FLAGS, 5, "true,1 / false,200 / true,5", "false / false / true"),
         (
             &COGROUP,
             3,
@@ -133,4 +176,62 @@ fn examples_give_their_rows(rt: HostRuntime) {
         let found = result(rt.alloc(), steps, last, inputs).expect(&rt, "no rows");
         assert_eq!(rt; found.as_str(), want, "{inputs}");
     }
+}
+
+/// How many entries are loaded, the workers, the segments and what is told.
+type LoadCase = (u32, u32, u32, &'static str);
+
+#[test]
+fn loads_are_full_where_they_are_above(rt: HostRuntime) {
+    let alloc = rt.alloc();
+    let cases: [LoadCase; 6] = [
+        (342, 1, 19, "3 0 0 8208 8192"),
+        (341, 1, 19, "-"),
+        (342, 1, 22, "-"),
+        (513, 1, 22, "3 0 0 12312 12288"),
+        (342, 1, 1, "3 0 0 8208 8192"),
+        (684, 2, 44, "3 0 0 8208 8192"),
+    ];
+    for (count, workers, budget, want) in cases {
+        let rows = counted(alloc, count).expect(&rt, "no rows");
+        let found =
+            first_full(alloc, LOADED, rows.as_str(), workers, budget).expect(&rt, "no answer");
+        assert_eq!(rt; found.as_str(), want, "{count}");
+    }
+}
+
+/// The lengths of the entries' texts and of those that take their place, the workers, the segments and
+/// what is told.
+type SwapCase = (&'static str, u32, u32, &'static str);
+
+#[test]
+fn swaps_are_full_where_they_are_above(rt: HostRuntime) {
+    let alloc = rt.alloc();
+    let cases: [SwapCase; 3] = [
+        (
+            "1:1000 / 2:100 / 3:990 / 4:990 / 5:990 / 6:990 / 7:990 / 8:990 / 9:990 + 1:100 / 2:1000",
+            1,
+            19,
+            "-",
+        ),
+        (
+            "1:1000 / 2:100 / 3:990 / 4:990 / 5:990 / 6:990 / 7:990 / 8:990 / 9:990 + 2:1000",
+            1,
+            19,
+            "3 1 0 9092 8192",
+        ),
+        ("1:9000 + 1:9", 4, 104, "3 0 2 9018 8192"),
+    ];
+    for (lengths, workers, budget, want) in cases {
+        let rows = long_texts(alloc, lengths).expect(&rt, "no rows");
+        let found =
+            first_full(alloc, SWAPPED, rows.as_str(), workers, budget).expect(&rt, "no answer");
+        assert_eq!(rt; found.as_str(), want, "{lengths}");
+    }
+}
+
+#[test]
+fn no_iteration_is_never_full(rt: HostRuntime) {
+    let found = first_full(rt.alloc(), FILTERED, "1,2 / 3,4", 1, 16).expect(&rt, "no answer");
+    assert_eq!(rt; found.as_str(), "-");
 }

@@ -1,0 +1,4 @@
+pub mod FindLemmas
+pub mod FullLemmas
+pub mod HashLemmas
+pub mod WalkLemmas
