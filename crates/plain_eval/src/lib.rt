@@ -3,7 +3,7 @@
 //! by one in `plain_ops`.
 //!
 //! Its one promise: `eval_rows` gives exactly the rows that the algebra gives of a plan's inputs, in
-//! the algebra's order. It is slow: it goes as the definitions go.
+//! the algebra's order. It goes as the definitions go, and copies the rows at each node.
 #![tactic(auto)]
 
 mod body;
