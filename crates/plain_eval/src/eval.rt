@@ -20,8 +20,8 @@ use std::alloc::Global;
 /// not be an accepted one. An expression whose text passes a text's limit, which no accepted plan
 /// has, is answered as want of memory.
 ///
-/// It is the plain program: the cost is a copy of the rows that each node gives, a walk along the
-/// rows for each key of a keyed op, and one along the right rows for each left row of a join.
+/// It is the plain program: the cost is a copy of the rows that each node gives, and for an op that
+/// goes by keys a sort of its rows, in each superstep anew.
 pub fn eval_rows(alloc: Global, plan: &Plan, inputs: &Inputs) -> Result<Rows, Memory>
     ensures { IfOk result (λ rows. rows ≡ eval plan.now inputs.now) }
 {

@@ -3,8 +3,8 @@
 //! by one in `plain_ops`.
 //!
 //! Its one promise: `eval_rows` gives exactly the rows that the algebra gives of a plan's inputs, in
-//! the algebra's order. It is slow: it goes as the definitions go. What it does with one node and with
-//! one state of a delta iteration can be called by itself.
+//! the algebra's order. It goes as the definitions go, and copies the rows at each node. What it does with
+//! one node and with one state of a delta iteration can be called by itself.
 #![tactic(auto)]
 
 mod body;
