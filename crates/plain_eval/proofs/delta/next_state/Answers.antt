@@ -1,7 +1,6 @@
-use Rattle.std.proofs.Common.{◌≡◌, sym, ap, ◌∙◌, arith}
-use Rattle.flow_model.specs.Algebra.{Env, given, source_numbers, superstep, rows_at}
+use Rattle.std.proofs.Common.{◌≡◌, ap, ◌∙◌, arith}
+use Rattle.flow_model.specs.Algebra.{Env, given, source_numbers, rows_at}
 use Rattle.flow_model.specs.Solutions.{merged}
-use Rattle.flow_model.specs.Env.{Tuples}
 use Rattle.plain_eval.proofs.EnvLemmas.{kept-superstep}
 use Rattle.plain_eval.proofs.IterationLemmas.{next_is, solution}
 use Rattle.plain_eval.proofs.delta.next_state.Goals as goal

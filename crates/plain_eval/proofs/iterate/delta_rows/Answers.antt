@@ -1,4 +1,4 @@
-use Rattle.std.proofs.Common.{◌≡◌, ◌-◌, true, false, sym, ap, ◌∙◌, arith}
+use Rattle.std.proofs.Common.{◌≡◌, ◌-◌, false, sym, ap, ◌∙◌, arith}
 use Rattle.flow_model.specs.Rows.{is_nothing}
 use Rattle.flow_model.specs.Algebra.{Env, given, source_numbers, delta_next, DeltaState}
 use Rattle.plain_eval.proofs.IterationLemmas.{delta_turn, delta_end}
