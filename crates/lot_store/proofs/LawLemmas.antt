@@ -8,7 +8,7 @@ use Rattle.spool.specs.declared.writer.RunWriter.{RunWriter}
 use Rattle.spool.proofs.ChainLemmas.{chain_lives}
 use Rattle.spool.proofs.PushLemmas.{writer_stays}
 use Rattle.lot_store.specs.Spilling.{IsSpilled, LeavesOthers, spilled}
-use Rattle.lot_store.specs.Lots.{Stored}
+use Rattle.lot_store.specs.Stores.{Stored}
 use Rattle.lot_store.specs.Laws.{AreApart, IsOther}
 
 -- The same of a run.

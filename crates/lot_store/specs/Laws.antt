@@ -3,7 +3,7 @@ use Rattle.std.specs.Prelude.{◌≡◌, ℕ, Option}
 use Rattle.flow_outside.specs.Blocks.{Blocks}
 use Rattle.spool.specs.declared.writer.RunWriter.{RunWriter}
 use Rattle.lot_store.specs.Spilling.{IsSpilled, LeavesOthers, OwnsBlock}
-use Rattle.lot_store.specs.Lots.{Stored, text}
+use Rattle.lot_store.specs.Stores.{Stored, text}
 
 -- Two lots stand apart: no block is one of both.
 abbrev pub AreApart : Blocks → (one other : Option RunWriter) → Type 0

@@ -1,4 +1,4 @@
 pub mod Spilling
-pub mod Lots
+pub mod Stores
 pub mod Keeping
 pub mod Laws

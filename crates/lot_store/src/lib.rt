@@ -8,8 +8,8 @@
 mod append;
 mod append_page;
 pub mod laws;
-pub mod lot;
 mod page;
 mod rest;
 mod spill;
 mod store;
+mod stored;
