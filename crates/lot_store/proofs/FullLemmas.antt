@@ -8,7 +8,8 @@ use Rattle.flow_outside.specs.Blocks.{Blocks, BothTold}
 use Rattle.paged_view.specs.Pages.{body, part, used}
 use Rattle.spool.specs.Headers.{IsSameSegment, as_page}
 use Rattle.lot_store.specs.Spilling.{IsLonger, spilled}
-use Rattle.lot_store.specs.Stores.{Stored, StandsWith, sizes_of, stored_sizes}
+use Rattle.page_feed.specs.Reach.{sizes_of}
+use Rattle.lot_store.specs.Stores.{Stored, StandsWith, stored_sizes}
 use Rattle.lot_store.specs.Keeping.{AddsFullPages, AddsPages, IsUnderWay, Keeps, KeepsSizes, MovesSegments, PutsPage}
 use Rattle.lot_store.proofs.SpillLemmas.{told_both, told_join, told_with}
 use Rattle.lot_store.proofs.LotLemmas.{keeps_same, nothing, on_ok_map}

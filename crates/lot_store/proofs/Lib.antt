@@ -4,4 +4,8 @@ pub mod SpillLemmas
 pub mod LotLemmas
 pub mod StepLemmas
 pub mod FullLemmas
+pub mod StoreLemmas
+pub mod RestLemmas
+pub mod ReadLemmas
+pub mod RowLemmas
 pub mod LawLemmas

@@ -6,7 +6,8 @@ use Rattle.flow_outside.specs.Blocks.{Blocks}
 use Rattle.paged_view.specs.Pages.{part}
 use Rattle.spool.specs.Headers.{IsSameSegment}
 use Rattle.lot_store.specs.Spilling.{LeavesOthers, OwnsBlock, OwnsWhatLives}
-use Rattle.lot_store.specs.Stores.{Stored, StandsWith, held, sizes, sizes_of, stored_sizes, text}
+use Rattle.page_feed.specs.Reach.{sizes_of}
+use Rattle.lot_store.specs.Stores.{Stored, StandsWith, held, sizes, stored_sizes, text}
 
 -- Pages that stood beside a purse stand beside what the purse is now. No block of anybody else changed, and none became
 -- the lot's. No block became live that isn't the lot's, and the lot's are its own still or not live.

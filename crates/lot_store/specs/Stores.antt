@@ -1,5 +1,5 @@
 -- The pages of a lot as its writing sees them, and the bytes that they stand for. The rules are this project's own.
-use Rattle.std.specs.Prelude.{◌≡◌, ◌<◌, ◌≤◌, ℕ, List, ◌++◌, length, map, Option}
+use Rattle.std.specs.Prelude.{◌≡◌, ◌<◌, ◌≤◌, ℕ, All, List, ◌++◌, length, map, Option}
 use Rattle.segment_core.specs.Segments.{Page, misfits}
 use Rattle.flow_outside.specs.Blocks.{Blocks}
 use Rattle.flow_outside.specs.Told.{IfTold}
@@ -7,6 +7,7 @@ use Rattle.paged_view.specs.Pages.{body, page_at, part, parts, used}
 use Rattle.spool.specs.Headers.{as_page}
 use Rattle.spool.specs.Runs.{joined}
 use Rattle.spool.specs.declared.writer.RunWriter.{RunWriter}
+use Rattle.page_feed.specs.Reach.{sizes_of}
 use Rattle.lot_store.specs.Spilling.{IsSpilled, spilled}
 
 -- Pages that are written one behind the other are seen as the most full pages that are kept in segments, the first pages,
@@ -25,10 +26,6 @@ held lot = lot.kept ++ lot.last
 -- The bytes that they stand for: the used bytes of the pages, kept, spilled and under way, one after the other.
 abbrev pub text : Blocks → Stored → List ℕ
 text blocks lot = parts lot.kept ++ (joined (spilled blocks lot.run) ++ parts lot.last)
-
--- how many bytes are used of each of these pages
-abbrev pub sizes_of : List Page → List ℕ
-sizes_of pages = map (λ page. length (part page)) pages
 
 -- How many bytes are used of each page that was stored, kept or spilled, one page after the other. The page under way
 -- isn't among them.
@@ -51,9 +48,17 @@ pub record StandsWith (size : ℕ) (lot : Stored) (purse : List Page) (blocks : 
 abbrev pub IsSound : Option Blocks → Stored → (purse : List Page) → Type 0
 IsSound told lot purse = IfTold told (λ blocks. (size : ℕ) × StandsWith size lot purse blocks)
 
+-- Some bytes of each page are used, and of the page under way, of which there is one at most, no more than it has.
+pub record ArePages (lot : Stored) : Type 0 where
+  pub filled : All (λ page. 0 < length (part page)) lot.kept
+  pub one : length lot.last ≤ 1
+  pub some : 0 < length lot.last → 0 < used (page_at lot.last 0)
+  pub within : used (page_at lot.last 0) ≤ length (body (page_at lot.last 0))
+
 -- What is always true of them: the list of kept pages, of `len`, has space reserved for its room, and the list of the page
--- under way, of `count`, for one. Some bytes of that page are used, and no more than it has.
-pub record IsStore (last : List Page) (len capacity room count space : ℕ) : Type 0 where
+-- under way, of `count`, for one. Some bytes of each page are used, and of the page under way no more than it has.
+pub record IsStore (kept last : List Page) (len capacity room count space : ℕ) : Type 0 where
+  pub filled : All (λ page. 0 < length (part page)) kept
   pub fits : len ≤ room
   pub reserved : room ≤ capacity
   pub one : count ≤ 1

@@ -1,7 +1,8 @@
 ghost use Rattle.std.specs.Prelude.{◌≡◌, ◌+◌, ◌<◌, ◌≤◌, [], ◌∷◌, ◌++◌, OnOk, length};
 ghost use Rattle.flow_outside.specs.Blocks.{BothTold};
 ghost use Rattle.lot_store.specs.Keeping.{AddsPages, AddsText, Keeps, MovesSegments, PutsPage};
-ghost use Rattle.lot_store.specs.Stores.{IsSound, held, sizes_of};
+ghost use Rattle.page_feed.specs.Reach.{sizes_of};
+ghost use Rattle.lot_store.specs.Stores.{IsSound, held};
 ghost use Rattle.lot_store.specs.Spilling.{HasWriteCause};
 ghost use Rattle.paged_view.specs.Pages.{body, part, used};
 

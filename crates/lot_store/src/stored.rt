@@ -1,16 +1,20 @@
-ghost use Rattle.std.specs.Prelude.{◌≡◌, ℕ, ◌+◌, ◌<◌, ◌≤◌, ◌↔◌, [], ◌∷◌, ◌++◌, None, IfOk, OnOk, OnErr, IfSome, IsTrue, length, option_to_list, vec_len, vec_capacity};
+ghost use Rattle.std.specs.Prelude.{◌≡◌, All, ℕ, ◌+◌, ◌<◌, ◌≤◌, ◌↔◌, [], ◌∷◌, ◌++◌, None, IfOk, OnOk, OnErr, IfSome, IsTrue, length, option_to_list, vec_len, vec_capacity};
 ghost use Rattle.lot_store.specs.Keeping.{MovesSegments};
 ghost use Rattle.segment_core.specs.Segments.{weigh};
 ghost use Rattle.flow_outside.specs.Blocks.{BothTold};
 ghost use Rattle.flow_outside.specs.Told.{IfTold};
-ghost use Rattle.lot_store.specs.Stores.{held};
+ghost use Rattle.lot_store.specs.Stores.{ArePages, held};
 ghost use Rattle.lot_store.specs.Spilling.{HasWriteCause, IsLonger, IsSpilled, IsUnchanged};
-ghost use Rattle.paged_view.specs.Pages.{body, part, used};
+ghost use Rattle.lot_store.specs.Reads.{HandsOver};
+ghost use Rattle.page_feed.specs.Feeds.{IsStarted, kept_in, last_in, lent, stopped};
+ghost use Rattle.paged_view.specs.Pages.{body, page_at, part, used};
 ghost use Rattle.spool.specs.Headers.{IsSameSegment};
 
+use crate::handing::{give_pages, reader_of, take_pages};
 use crate::spill::spill;
 use flow_outside::failure::{Memory, StreamFault};
 use flow_outside::spill::Spill;
+use page_feed::feed::Feed;
 use segment_core::{Purse, Segment};
 use spool::writer::RunWriter;
 use std::alloc::Global;
@@ -39,7 +43,7 @@ impl Model for StoredPages {
     } };
 
     ghost invariant = { λ l.
-        IsStore l.last.items (vec_len l.kept) (vec_capacity l.kept) l.room (vec_len l.last) (vec_capacity l.last) };
+        IsStore l.kept.items l.last.items (vec_len l.kept) (vec_capacity l.kept) l.room (vec_len l.last) (vec_capacity l.last) };
 }
 
 impl StoredPages {
@@ -72,9 +76,18 @@ impl StoredPages {
         self.run.is_none() && self.kept.len() < self.room as usize && purse.len() > 0
     }
 
+    /// What is always true of the pages. It does nothing.
+    pub(crate) fn limits(&self)
+        ensures { ArePages self.now }
+    {
+        let _last = self.last.as_slice();
+    }
+
     /// Keeps a page behind the others that are kept.
     pub(crate) fn keep(&mut self, page: Segment)
-        requires { length self.old.kept < self.old.room }
+        requires some { 0 < used page }
+        requires within { used page ≤ length (body page) }
+        requires fits { length self.old.kept < self.old.room }
         ensures kept { self.new.kept ≡ self.old.kept ++ page ∷ [] }
         ensures run { self.new.run ≡ self.old.run }
         ensures last { self.new.last ≡ self.old.last }
@@ -162,6 +175,46 @@ impl StoredPages {
         ensures own { self.new.room ≡ self.old.room }
     {
         self.last.push_reserved(page);
+    }
+
+    /// Takes the pages back that a feed has. The segments that it was lent go to the purse.
+    pub(crate) fn take_back(&mut self, feed: &mut Feed, purse: &mut Purse)
+        requires whole { 0 < length (kept_in feed.old) + length (last_in feed.old) →
+            length self.old.kept + length self.old.last ≡ 0 }
+        requires fits { length (kept_in feed.old) ≤ self.old.room }
+        requires filled { All (λ page. 0 < length (part page)) (kept_in feed.old) }
+        requires one { length (last_in feed.old) ≤ 1 }
+        requires some { 0 < length (last_in feed.old) → 0 < used (page_at (last_in feed.old) 0) }
+        requires within { used (page_at (last_in feed.old) 0) ≤ length (body (page_at (last_in feed.old) 0)) }
+        requires room { length purse.old.pages + length (lent feed.old) ≤ purse.old.room }
+        ensures kept { self.new.kept ≡ self.old.kept ++ kept_in feed.old }
+        ensures last { self.new.last ≡ self.old.last ++ last_in feed.old }
+        ensures run { self.new.run ≡ self.old.run }
+        ensures own { self.new.room ≡ self.old.room }
+        ensures feed { feed.new ≡ stopped feed.old.room feed.old.reach }
+        ensures room { purse.new.room ≡ purse.old.room }
+        ensures segments { (h : ℕ → ℕ → ℕ) → weigh h purse.new.pages ≡ weigh h purse.old.pages + weigh h (lent feed.old) }
+    {
+        take_pages(&mut self.kept, &mut self.last, feed, purse);
+    }
+
+    /// Hands all pages over to a feed, which takes segments from the purse to read spilled pages into.
+    pub(crate) fn hand_over(&mut self, feed: &mut Feed, purse: &mut Purse)
+        requires rest { feed.old ≡ stopped feed.old.room feed.old.reach }
+        requires seat { feed.old.room ≡ self.old.room }
+        requires supply { feed.old.reach ≤ length purse.old.pages }
+        ensures over { HandsOver self.old self.new feed.old feed.new }
+        ensures started { IsStarted feed.new }
+        ensures fits { length self.old.kept ≤ self.old.room }
+        ensures filled { All (λ page. 0 < length (part page)) self.old.kept }
+        ensures one { length self.old.last ≤ 1 }
+        ensures some { 0 < length self.old.last → 0 < used (page_at self.old.last 0) }
+        ensures within { used (page_at self.old.last 0) ≤ length (body (page_at self.old.last 0)) }
+        ensures room { purse.new.room ≡ purse.old.room }
+        ensures segments { (h : ℕ → ℕ → ℕ) → weigh h purse.new.pages + weigh h feed.new.blank ≡ weigh h purse.old.pages }
+    {
+        let reader = reader_of(&self.run);
+        give_pages(&mut self.kept, &mut self.last, reader, feed, purse);
     }
 
     /// Ends them where they hold no segment.
