@@ -1,7 +1,7 @@
 -- The place moved past a record.
 use Rattle.std.proofs.Common.{arith}
 use Rattle.paged_view.proofs.ReadingLemmas.{moved_is, whole_behind, within_parts}
-use Rattle.paged_view.proofs.reader.PageReader.step.Goals as goal
+use Rattle.paged_view.proofs.reader.PageReader.advance.Goals as goal
 
 pub returns-clause-ok : goal.returns-clause-ok
 returns-clause-ok c =
