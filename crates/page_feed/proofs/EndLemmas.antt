@@ -1,22 +1,21 @@
 -- Lemmas on the answer of an advance.
-use Rattle.std.proofs.Common.{◌≡◌, ℕ, zero, suc, ◌+◌, ◌-◌, ◌^◌, ◌<◌, ◌≤◌, Bool, true, false, List, [], ◌∷◌, ◌++◌, length, take, drop, Option, Some, None, Result, Ok, Err, IfOk, IsErrOf, All, refl, sym, ap, ◌∙◌, subst, arith, append-nil, length-append, inl, inr}
+use Rattle.std.proofs.Common.{◌≡◌, ℕ, suc, ◌+◌, ◌-◌, ◌<◌, ◌≤◌, false, List, [], ◌∷◌, ◌++◌, length, Option, Some, None, refl, sym, ap, ◌∙◌, arith, length-append, inl, inr}
 use Rattle.std.proofs.lemmas.Bool.{cases_lt}
-use Rattle.std.proofs.lemmas.List.{append_cancel_left}
-use Rattle.segment_core.specs.Segments.{Page, misfits, weigh}
+use Rattle.segment_core.specs.Segments.{Page}
 use Rattle.flow_outside.specs.Blocks.{Blocks}
 use Rattle.flow_outside.specs.Told.{IfTold}
 use Rattle.flow_types.specs.Records.{framed, frames}
 use Rattle.paged_view.specs.Pages.{part, parts}
-use Rattle.paged_view.specs.Reading.{HasRecord, Reading, after_first, first_record, has_spent, moved, size_of}
+use Rattle.paged_view.specs.Reading.{HasRecord, has_spent}
 use Rattle.paged_view.specs.RecordLaws.{ReadsFirst}
 use Rattle.paged_view.specs.Streams.{Advances}
 use Rattle.paged_view.proofs.RecordLemmas.{length-framed, reads_first}
 use Rattle.spool.specs.Runs.{joined}
-use Rattle.page_feed.specs.Reach.{IsWithinReach, behind, sizes_of, touched}
-use Rattle.page_feed.specs.Feeds.{Fed, HasLeft, IsLeftReadable, lent, most_left, pages_left, sizes_left, unread}
-use Rattle.page_feed.specs.Feeding.{GoesOn, IsFed, IsGivenOut, IsKnown, IsPutAway, IsStuck, PutsAway}
+use Rattle.page_feed.specs.Reach.{behind, sizes_of, touched}
+use Rattle.page_feed.specs.Feeds.{Fed, HasLeft, pages_left, sizes_left, unread}
+use Rattle.page_feed.specs.Feeding.{GoesOn, IsFed, IsGivenOut, IsKnown, IsStuck}
 use Rattle.page_feed.proofs.ReachLemmas.{behind_sum, behind_unspent, length-sizes_of, sizes_read, total, total-append, total-behind, total-sizes_of, total-sizes_read, touched_past}
-use Rattle.page_feed.proofs.LeftLemmas.{none_left, told_all, told_join, told_map}
+use Rattle.page_feed.proofs.LeftLemmas.{none_left, told_map}
 
 -- what stands behind the text in the reader
 abbrev rest_of : Blocks → Fed → List ℕ

@@ -1,17 +1,17 @@
 -- Lemmas on the records that a feed has left.
-use Rattle.std.proofs.Common.{◌≡◌, ℕ, zero, suc, ◌+◌, ◌-◌, ◌*◌, ◌<◌, ◌≤◌, cond, not, ◌==◌, List, [], ◌∷◌, ◌++◌, length, take, drop, Option, Some, None, refl, sym, ap, ◌∙◌, subst, arith, append_assoc, append-nil, length-append}
+use Rattle.std.proofs.Common.{◌≡◌, ℕ, ◌+◌, ◌-◌, ◌*◌, ◌≤◌, cond, not, ◌==◌, List, [], ◌∷◌, ◌++◌, length, Option, Some, None, refl, sym, ap, ◌∙◌, subst, arith, append_assoc, append-nil, length-append}
 use Rattle.segment_core.specs.Segments.{Page, misfits, weigh}
 use Rattle.segment_core.proofs.Weighing.{weigh-ones}
 use Rattle.flow_outside.specs.Blocks.{Blocks}
 use Rattle.flow_outside.specs.Told.{IfTold}
 use Rattle.paged_view.specs.Pages.{part, parts}
 use Rattle.paged_view.specs.Reading.{Reading}
-use Rattle.spool.specs.Runs.{HasBlock, joined, pages_at}
+use Rattle.spool.specs.Runs.{joined, pages_at}
 use Rattle.spool.specs.declared.place.RunReader.{RunReader}
 use Rattle.page_feed.specs.Reach.{IsWithinReach, behind, sizes_of}
-use Rattle.page_feed.specs.Feeds.{Fed, HasBlockLeft, HasLeft, IsLeftReadable, IsStarted, kept_in, last_in, lent, most_left, pages_left, pages_to_read, sizes_left, unread}
+use Rattle.page_feed.specs.Feeds.{Fed, HasBlockLeft, HasLeft, IsLeftReadable, IsStarted, lent, most_left, pages_left, pages_to_read, sizes_left, unread}
 use Rattle.page_feed.specs.Feeding.{GoesOn, IsKnown, PutsAway}
-use Rattle.page_feed.proofs.ReachLemmas.{parts-append, sizes-append, sizes_read}
+use Rattle.page_feed.proofs.ReachLemmas.{parts-append, sizes-append}
 
 -- What follows of told blocks from one fact, and from two.
 pub told_map : (t : Option Blocks) (P Q : Blocks → Type 0) → ((m : Blocks) → P m → Q m) → IfTold t P → IfTold t Q

@@ -1,9 +1,9 @@
 -- Lemmas on the lists of a feed.
-use Rattle.std.proofs.Common.{◌≡◌, ℕ, zero, suc, ◌+◌, ◌-◌, ◌<◌, ◌≤◌, List, [], ◌∷◌, ◌++◌, length, take, drop, reverse, refl, sym, ap, ◌∙◌, arith, append_assoc, append-nil, length-append, length-drop, length-take, add-one}
+use Rattle.std.proofs.Common.{◌≡◌, ℕ, zero, suc, ◌+◌, ◌≤◌, List, [], ◌∷◌, ◌++◌, length, take, drop, reverse, refl, ap, ◌∙◌, arith, append_assoc, append-nil, length-append, length-drop, length-take, add-one}
 use Rattle.std.proofs.lemmas.List.{drop-drop, reverse-append, reverse-reverse}
 use Rattle.page_feed.specs.Feeds.{Fed, held, kept_in, last_in, lent}
 use Rattle.segment_core.specs.Segments.{Page, weigh}
-use Rattle.segment_core.proofs.Weighing.{weigh-append, weigh-one}
+use Rattle.segment_core.proofs.Weighing.{weigh-append}
 
 -- The next page of a list, of which `i` were taken.
 taken_suc : (ps rest : List Page) (i : ℕ) (page : Page) → drop i ps ≡ page ∷ rest → (take (suc i) ps ≡ take i ps ++ page ∷ []) × (drop (suc i) ps ≡ rest)

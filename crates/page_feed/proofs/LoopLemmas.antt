@@ -1,6 +1,6 @@
 -- Lemmas on one turn of an advance: no whole record stood in the reader, pages were put away, and a page was asked for.
-use Rattle.std.proofs.Common.{◌≡◌, ℕ, ◌+◌, ◌<◌, ◌≤◌, ◌⊎◌, Bool, true, false, List, [], length, Option, Some, None, Result, Ok, Err, IfOk, IsOk, IsErrOf, MatchResult, is_some, refl, sym, ap, ◌∙◌, subst, arith}
-use Rattle.segment_core.specs.Segments.{misfits, weigh}
+use Rattle.std.proofs.Common.{◌≡◌, ℕ, ◌<◌, ◌≤◌, ◌⊎◌, Bool, true, false, List, [], length, Option, None, Result, Ok, Err, IfOk, IsOk, IsErrOf, MatchResult, is_some, refl, sym, ap, ◌∙◌, subst, arith}
+use Rattle.segment_core.specs.Segments.{misfits}
 use Rattle.flow_outside.specs.Blocks.{Blocks}
 use Rattle.flow_outside.specs.Causes.{HasStreamCause, Rose}
 use Rattle.flow_outside.specs.Told.{IfTold}

@@ -1,21 +1,21 @@
 -- Lemmas on the record that is shown next.
-use Rattle.std.proofs.Common.{◌≡◌, ℕ, zero, suc, ◌+◌, ◌-◌, ◌^◌, ◌<◌, ◌≤◌, true, List, [], ◌∷◌, ◌++◌, length, take, drop, Option, Some, None, refl, sym, ap, ◌∙◌, subst, arith, append_assoc, length-append, length-drop}
+use Rattle.std.proofs.Common.{◌≡◌, ℕ, suc, ◌+◌, ◌-◌, ◌<◌, ◌≤◌, true, List, [], ◌∷◌, ◌++◌, length, Option, Some, sym, ap, ◌∙◌, subst, arith, append_assoc, length-append, length-drop}
 use Rattle.std.proofs.lemmas.List.{append_cancel_left}
-use Rattle.segment_core.specs.Segments.{Page, misfits, weigh}
+use Rattle.segment_core.specs.Segments.{misfits, weigh}
 use Rattle.flow_outside.specs.Blocks.{Blocks}
 use Rattle.flow_outside.specs.Told.{IfTold}
 use Rattle.flow_types.specs.Records.{framed, frames}
 use Rattle.paged_view.specs.Pages.{parts}
-use Rattle.paged_view.specs.Reading.{HasRecord, Reading, after_first, first_record, moved, size_of}
+use Rattle.paged_view.specs.Reading.{HasRecord, after_first, first_record, moved, size_of}
 use Rattle.paged_view.specs.RecordLaws.{ReadsFirst}
 use Rattle.paged_view.specs.Streams.{Advances}
 use Rattle.paged_view.proofs.RecordLemmas.{length-framed, reads_first}
 use Rattle.spool.specs.Runs.{joined}
 use Rattle.page_feed.specs.Reach.{IsWithinReach, behind, sizes_of}
-use Rattle.page_feed.specs.Feeds.{Fed, HasBlockLeft, HasLeft, IsLeftReadable, kept_in, last_in, lent, most_left, pages_left, sizes_left, unread}
+use Rattle.page_feed.specs.Feeds.{Fed, HasBlockLeft, HasLeft, IsLeftReadable, kept_in, last_in, lent, most_left, pages_left, sizes_left}
 use Rattle.page_feed.specs.Feeding.{GoesOn}
 use Rattle.page_feed.proofs.ReachLemmas.{behind-behind, sizes_read}
-use Rattle.page_feed.proofs.LeftLemmas.{told_join, told_map}
+use Rattle.page_feed.proofs.LeftLemmas.{told_map}
 
 -- the feed that moved past the next record in its reader and shows it
 abbrev pub showing : Fed → Fed

@@ -1,6 +1,6 @@
 -- Lemmas on the steps of an advance: pages that go through the reader.
-use Rattle.std.proofs.Common.{◌≡◌, ℕ, zero, suc, ◌+◌, ◌-◌, ◌*◌, ◌<◌, ◌≤◌, true, false, cond, Bool, List, [], ◌∷◌, ◌++◌, length, take, drop, Option, Some, None, Result, Ok, Err, IsErrOf, refl, sym, ap, ◌∙◌, subst, arith, append_assoc, append-nil, length-append, length-drop, length-take, add-one, inl, inr}
-use Rattle.std.proofs.lemmas.List.{take_at, drop_all, drop_at, take-append-le, drop-append-le, take_all}
+use Rattle.std.proofs.Common.{◌≡◌, ℕ, suc, ◌+◌, ◌-◌, ◌<◌, ◌≤◌, true, false, Bool, List, [], ◌∷◌, ◌++◌, length, take, drop, Option, Some, None, Result, Ok, Err, IsErrOf, refl, sym, ap, ◌∙◌, subst, arith, append_assoc, length-append, length-drop, length-take, add-one, inl, inr}
+use Rattle.std.proofs.lemmas.List.{drop_all, drop_at, take-append-le, drop-append-le, take_all}
 use Rattle.std.proofs.lemmas.Bool.{cases_lt}
 use Rattle.std.proofs.lemmas.Bool.Decides.{nat_tests}
 use Rattle.segment_core.specs.Segments.{Page, misfits, weigh}
@@ -11,14 +11,14 @@ use Rattle.flow_outside.specs.declared.failure.StreamFault.{StreamFault}
 use Rattle.flow_outside.specs.declared.failure.StreamFault.TheVariants.{Spill, Damaged}
 use Rattle.paged_view.specs.Pages.{part, parts}
 use Rattle.paged_view.specs.Reading.{Reading, has_spent}
-use Rattle.spool.specs.Headers.{IsSameSegment, as_page, next_of}
+use Rattle.spool.specs.Headers.{IsSameSegment, next_of}
 use Rattle.spool.specs.Runs.{HasBlock, bytes_of, joined, next_in}
 use Rattle.spool.specs.Reading.{HasRead, IsUnread}
 use Rattle.spool.specs.declared.place.RunReader.{RunReader}
 use Rattle.page_feed.specs.Reach.{behind, sizes_of}
-use Rattle.page_feed.specs.Feeds.{Fed, HasBlockLeft, HasLeft, IsLeftReadable, kept_in, last_in, lent, most_left, pages_left, pages_to_read, sizes_left, unread}
+use Rattle.page_feed.specs.Feeds.{Fed, HasBlockLeft, HasLeft, IsLeftReadable, lent, pages_left, pages_to_read}
 use Rattle.page_feed.specs.Feeding.{GoesOn, IsFed, PutsAway}
-use Rattle.page_feed.proofs.ReachLemmas.{behind_past, parts-append, sizes_read, spent_less}
+use Rattle.page_feed.proofs.ReachLemmas.{behind_past, sizes_read, spent_less}
 use Rattle.page_feed.proofs.LeftLemmas.{left_on, none_left, other_size, sizes_given, told_all, told_join, told_map}
 
 -- The pages' sizes without a page that was read.

@@ -1,6 +1,6 @@
 -- What is true of every feed, and what the steps of an advance keep.
-use Rattle.std.specs.Prelude.{◌≡◌, ◌⊎◌, ℕ, ◌+◌, ◌<◌, ◌≤◌, Bool, false, List, [], ◌++◌, length, Option}
-use Rattle.segment_core.specs.Segments.{Page, misfits, weigh}
+use Rattle.std.specs.Prelude.{◌≡◌, ◌⊎◌, ℕ, ◌+◌, ◌<◌, ◌≤◌, false, List, [], length, Option}
+use Rattle.segment_core.specs.Segments.{misfits, weigh}
 use Rattle.flow_outside.specs.Blocks.{Blocks}
 use Rattle.flow_outside.specs.Told.{IfTold}
 use Rattle.paged_view.specs.Pages.{parts}

@@ -1,5 +1,5 @@
 -- Feeds as contracts see them, and the bytes and records that they have left. The rules are this project's own.
-use Rattle.std.specs.Prelude.{◌≡◌, ℕ, ◌+◌, ◌-◌, ◌*◌, ◌^◌, ◌<◌, ◌≤◌, List, [], ◌++◌, All, length, take, drop, map, Option, Some, None, ⊤}
+use Rattle.std.specs.Prelude.{◌≡◌, ℕ, ◌+◌, ◌-◌, ◌*◌, ◌^◌, ◌<◌, List, [], ◌++◌, All, length, take, drop, map, Option, Some, None, ⊤}
 use Rattle.segment_core.specs.Segments.{Page, misfits}
 use Rattle.flow_outside.specs.Blocks.{Blocks}
 use Rattle.flow_types.specs.Records.{frames}

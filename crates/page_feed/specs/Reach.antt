@@ -1,5 +1,5 @@
 -- How many pages a record touches. The rules are this project's own.
-use Rattle.std.specs.Prelude.{◌≡◌, ℕ, zero, suc, ◌+◌, ◌-◌, ◌*◌, ◌/◌, ◌<◌, ◌≤◌, nat_lt, cond, List, [], ◌∷◌, ◌++◌, map, length, sum_by, ⊤}
+use Rattle.std.specs.Prelude.{ℕ, zero, suc, ◌+◌, ◌-◌, ◌≤◌, nat_lt, cond, List, [], ◌∷◌, map, length, ⊤}
 use Rattle.segment_core.specs.Segments.{Page}
 use Rattle.paged_view.specs.Pages.{part}
 

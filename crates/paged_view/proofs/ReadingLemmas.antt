@@ -119,7 +119,7 @@ pub read_out : (room page off pending page' off' len : ℕ) (ps : List Page) (w 
 read_out room page off pending page' off' len ps w is same among byte long =
     let text : unread ps page' off' ≡ w.text = same ∙ ap (λ (v : Reading). v.text) is in (
       λ yes. let at : page' ≡ len = grind (arith, nat_tests) in
-      sym text ∙ ap (λ qs. drop off' (parts qs)) (drop_all page' ps (omega (arith, at, long))) ∙ drop_all {X = ℕ} off' [] (omega arith),
+          sym text ∙ ap (λ qs. drop off' (parts qs)) (drop_all page' ps (omega (arith, at, long))) ∙ drop_all {X = ℕ} off' [] (omega arith),
       λ none. elim (cases_lt page' len) [
         | inl below ↦ absurd (omega (arith, byte below, ap length (text ∙ none), length-unread ps page' off', ap length (parts-drop ps page' (omega (arith, below, long))), length-append (part (page_at ps page')) (parts (drop (page' + 1) ps))))
         | inr past ↦ grind (arith, nat_tests)

@@ -198,7 +198,6 @@ impl PageReader {
         } = self;
         Purse::of_items(pages, room)
     }
-
 }
 
 // The place of byte `at` of the used bytes of the pages from `page` on: a byte of a page, or behind the

@@ -1,5 +1,5 @@
 -- One page more was moved.
-use Rattle.std.proofs.Common.{◌≡◌, ◌+◌, ◌∷◌, ◌++◌, [], drop, take, sym, ap, ◌∙◌, arith, append_assoc}
+use Rattle.std.proofs.Common.{◌≡◌, ◌∷◌, ◌++◌, [], drop, take, sym, ap, ◌∙◌, arith, append_assoc}
 use Rattle.page_feed.proofs.ListLemmas.{drop_next, take_next}
 use Rattle.page_feed.proofs.lists.withdraw.Goals as goal
 

@@ -1,5 +1,5 @@
 -- One page more was moved.
-use Rattle.std.proofs.Common.{◌≡◌, ◌+◌, ◌∷◌, ◌++◌, [], drop, length, sym, ap, ◌∙◌, arith, length-append}
+use Rattle.std.proofs.Common.{◌≡◌, ◌∷◌, [], drop, length, sym, ap, ◌∙◌, arith, length-append}
 use Rattle.page_feed.proofs.ListLemmas.{drop_next, weigh_next}
 use Rattle.page_feed.proofs.lists.withdraw_lent.Goals as goal
 

@@ -1,10 +1,8 @@
 -- One turn of the loop, and its ends.
-use Rattle.std.proofs.Common.{◌≡◌, ◌<◌, ◌≤◌, Ok, None, true, false, ap, sym, ◌∙◌, arith, refl}
-use Rattle.page_feed.specs.Feeds.{Fed}
-use Rattle.page_feed.specs.Feeding.{GoesOn, IsStuck}
-use Rattle.page_feed.proofs.LeftLemmas.{goes_nowhere, known_on, started_on}
-use Rattle.page_feed.proofs.LoopLemmas.{cause_end, goes_after, goes_before, known_before, no_record, readable_all, rows_end, same_to_give, stuck_is}
-use Rattle.page_feed.proofs.ShowLemmas.{IsShown, shows_next}
+use Rattle.std.proofs.Common.{Ok, ap, ◌∙◌, arith}
+use Rattle.page_feed.proofs.LeftLemmas.{known_on, started_on}
+use Rattle.page_feed.proofs.LoopLemmas.{cause_end, goes_after, goes_before, known_before, no_record, readable_all, rows_end, stuck_is}
+use Rattle.page_feed.proofs.ShowLemmas.{shows_next}
 use Rattle.page_feed.proofs.feed.Feed.advance.Goals as goal
 
 pub returns-then-show_next-clause-started : goal.returns-then-show_next-clause-started

@@ -1,5 +1,5 @@
 -- No segment is held.
-use Rattle.std.proofs.Common.{◌≡◌, length, vec_len, ap, ◌∙◌, arith}
+use Rattle.std.proofs.Common.{ap, ◌∙◌, arith}
 use Rattle.std.proofs.lemmas.List.{length-reverse}
 use Rattle.page_feed.specs.contracts.feed.Feed.{the_view}
 use Rattle.page_feed.specs.Feeds.{held}

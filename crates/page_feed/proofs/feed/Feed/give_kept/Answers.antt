@@ -1,5 +1,5 @@
 -- The next kept page goes to the reader.
-use Rattle.std.proofs.Common.{◌≡◌, ◌+◌, ◌∷◌, ◌++◌, [], List, reverse, vec_len, length, ap, ◌∙◌, arith}
+use Rattle.std.proofs.Common.{◌≡◌, ◌∷◌, [], List, reverse, vec_len, length, ap, ◌∙◌, arith}
 use Rattle.std.proofs.lemmas.List.{reverse-append}
 use Rattle.segment_core.specs.Segments.{Page}
 use Rattle.page_feed.proofs.StepLemmas.{count_kept, goes_on, kept_given}

@@ -1,5 +1,5 @@
 -- The page under way goes to the reader.
-use Rattle.std.proofs.Common.{◌≡◌, ◌+◌, ◌≤◌, [], length, vec_len, ap, ◌∙◌, arith}
+use Rattle.std.proofs.Common.{◌≡◌, ◌+◌, length, vec_len, ap, ◌∙◌, arith}
 use Rattle.page_feed.specs.Feeds.{Fed, pages_to_read}
 use Rattle.page_feed.proofs.ListLemmas.{none_there}
 use Rattle.page_feed.proofs.StepLemmas.{goes_on, last_given}

@@ -1,5 +1,5 @@
 -- A page of the run is read and goes to the reader, or the segment is blank again.
-use Rattle.std.proofs.Common.{◌≡◌, ℕ, ◌+◌, ◌<◌, Ok, Err, None, length, ap, sym, ◌∙◌, arith, refl}
+use Rattle.std.proofs.Common.{◌≡◌, ◌+◌, Ok, length, ap, ◌∙◌, arith}
 use Rattle.page_feed.specs.Feeds.{Fed, pages_to_read}
 use Rattle.page_feed.proofs.LeftLemmas.{goes_nowhere}
 use Rattle.page_feed.proofs.StepLemmas.{blank_there, count_read, read_failed, read_given, read_nothing, readable_first, still_told}

@@ -1,5 +1,5 @@
 -- The oldest page goes to its list.
-use Rattle.std.proofs.Common.{◌≡◌, ℕ, ◌+◌, arith}
+use Rattle.std.proofs.Common.{◌≡◌, arith}
 use Rattle.page_feed.proofs.StepLemmas.{away_on, kept_away, lent_away}
 use Rattle.page_feed.proofs.feed.Feed.put_away.Goals as goal
 

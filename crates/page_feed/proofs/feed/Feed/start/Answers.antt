@@ -1,5 +1,5 @@
 -- The lists of a feed that begins.
-use Rattle.std.proofs.Common.{◌≡◌, reverse, ap, ◌∙◌}
+use Rattle.std.proofs.Common.{reverse, ap, ◌∙◌}
 use Rattle.page_feed.specs.Feeds.{Fed, stopped}
 use Rattle.page_feed.proofs.ListLemmas.{begun_ahead, begun_last}
 use Rattle.page_feed.proofs.feed.Feed.start.Goals as goal

@@ -1,5 +1,5 @@
 -- All segments stand where they belong.
-use Rattle.std.proofs.Common.{◌≡◌, ◌≤◌, ◌++◌, length, vec_len, ap, ◌∙◌, arith}
+use Rattle.std.proofs.Common.{◌++◌, ap, ◌∙◌, arith}
 use Rattle.page_feed.specs.Feeds.{Fed, kept_in, last_in}
 use Rattle.page_feed.proofs.ListLemmas.{stopped_kept, stopped_last}
 use Rattle.page_feed.proofs.feed.Feed.stop.Goals as goal
