@@ -1,5 +1,5 @@
 -- How many bytes are used of the pages that were stored.
-use Rattle.std.proofs.Common.{◌≡◌, ◌≢◌, inl, inr, ℕ, ◌+◌, ◌-◌, ◌<◌, ◌≤◌, List, [], ◌∷◌, ◌++◌, length, map, drop, replicate, Result, Ok, Err, IfOk, OnOk, Option, Some, None, refl, sym, ap, ◌∙◌, subst, arith, append_assoc, append-nil, length-drop}
+use Rattle.std.proofs.Common.{◌≡◌, inl, inr, ℕ, ◌+◌, ◌-◌, ◌<◌, ◌≤◌, List, [], ◌∷◌, ◌++◌, length, map, replicate, Result, Ok, Err, OnOk, Option, Some, None, refl, sym, ap, ◌∙◌, subst, arith, append_assoc, append-nil, length-drop}
 use Rattle.std.proofs.lemmas.Bool.{cases_lt}
 use Rattle.std.proofs.lemmas.List.{length-take-le, map-append, replicate-append-replicate}
 use Rattle.segment_core.specs.Segments.{Page}
@@ -9,8 +9,8 @@ use Rattle.paged_view.specs.Pages.{body, part, used}
 use Rattle.spool.specs.Headers.{IsSameSegment, as_page}
 use Rattle.lot_store.specs.Spilling.{IsLonger, spilled}
 use Rattle.page_feed.specs.Reach.{sizes_of}
-use Rattle.lot_store.specs.Stores.{Stored, StandsWith, stored_sizes}
-use Rattle.lot_store.specs.Keeping.{AddsFullPages, AddsPages, IsUnderWay, Keeps, KeepsSizes, MovesSegments, PutsPage}
+use Rattle.lot_store.specs.Stores.{Stored, stored_sizes}
+use Rattle.lot_store.specs.Keeping.{AddsFullPages, AddsPages, Keeps, KeepsSizes, MovesSegments, PutsPage}
 use Rattle.lot_store.proofs.SpillLemmas.{told_both, told_join, told_with}
 use Rattle.lot_store.proofs.LotLemmas.{keeps_same, nothing, on_ok_map}
 

@@ -1,5 +1,5 @@
 -- A run keeps its blocks while it grows, and gets those that became live.
-use Rattle.std.proofs.Common.{◌≡◌, ◌≢◌, ◌⊎◌, inl, inr, ℕ, zero, suc, ◌+◌, List, Some, None, sym, ap, ◌∙◌, subst, add-one}
+use Rattle.std.proofs.Common.{◌≡◌, ◌≢◌, inl, inr, ℕ, zero, suc, ◌+◌, List, Some, None, sym, ap, ◌∙◌, subst, add-one}
 use Rattle.std.proofs.lemmas.Bool.{cases_eq}
 use Rattle.flow_outside.specs.Blocks.{Blocks, Becomes, IsGiven}
 use Rattle.spool.specs.Headers.{next_of}
@@ -8,7 +8,7 @@ use Rattle.spool.specs.Changes.{IsAppended, IsKept, IsPushed, LeavesOpen}
 use Rattle.spool.specs.declared.writer.RunWriter.{RunWriter}
 use Rattle.spool.proofs.ChainLemmas.{end_is_block, first_not_end, holder_lives}
 use Rattle.spool.proofs.PushLemmas.{end_lives}
-use Rattle.lot_store.specs.Spilling.{IsFreeOrOwn, OwnsWhatLives}
+use Rattle.lot_store.specs.Spilling.{OwnsWhatLives}
 
 -- A chain that got a page more has the blocks that it had.
 chain_has : (m n : Blocks) (size number at count end next : ℕ) (page : List ℕ)

@@ -1,5 +1,5 @@
 -- A lot that is read from its first page on.
-use Rattle.std.proofs.Common.{◌≡◌, ℕ, zero, suc, ◌+◌, ◌-◌, ◌^◌, ◌<◌, ◌≤◌, ◌==◌, Bool, cond, not, All, List, [], ◌∷◌, ◌++◌, length, map, Result, Ok, Err, IfOk, Option, Some, None, refl, sym, ap, ◌∙◌, subst, arith, append_assoc, append-nil}
+use Rattle.std.proofs.Common.{◌≡◌, ℕ, zero, suc, ◌+◌, ◌-◌, ◌^◌, ◌<◌, ◌≤◌, ◌==◌, Bool, cond, not, All, List, [], ◌∷◌, ◌++◌, length, map, Result, Ok, Err, IfOk, Option, Some, None, refl, sym, ap, ◌∙◌, subst, arith, append_assoc}
 use Rattle.segment_core.specs.Segments.{Page, misfits, weigh}
 use Rattle.segment_core.proofs.Weighing.{weigh-append}
 use Rattle.flow_outside.specs.Blocks.{Blocks, BothTold}
@@ -8,18 +8,18 @@ use Rattle.flow_types.specs.Records.{frames}
 use Rattle.paged_view.specs.Pages.{body, page_at, part, parts, used}
 use Rattle.paged_view.specs.Streams.{Advances, KnowsRows}
 use Rattle.spool.specs.Headers.{as_page}
-use Rattle.spool.specs.Reading.{IsReadable, number_at}
+use Rattle.spool.specs.Reading.{number_at}
 use Rattle.spool.specs.Runs.{HasBlock, Stands, joined, pages_at}
 use Rattle.spool.specs.declared.place.RunReader.{RunReader}
 use Rattle.spool.specs.declared.writer.RunWriter.{RunWriter}
-use Rattle.page_feed.specs.Feeds.{Fed, HasBlockLeft, HasLeft, IsLeftReadable, kept_in, last_in, lent, pages_left, sizes_left, stopped, unread}
+use Rattle.page_feed.specs.Feeds.{Fed, HasBlockLeft, HasLeft, IsLeftReadable, kept_in, last_in, lent, pages_left}
 use Rattle.page_feed.specs.Reach.{IsWithinReach, behind, sizes_of, touched}
 use Rattle.page_feed.proofs.ReachLemmas.{behind_past, behind_within}
 use Rattle.lot_store.specs.Spilling.{IsFreeOrOwn, IsSpilled, OwnsBlock, spilled}
 use Rattle.lot_store.specs.Stores.{Stored, held as held_stored, sizes as sizes_stored, text as text_stored}
-use Rattle.lot_store.specs.Lots.{HoldsRows, IsLeft, IsLot, IsRewound, IsSound, LotView, ReadsOwn, StandsWith, held, pages_of, text}
+use Rattle.lot_store.specs.Lots.{HoldsRows, IsLeft, IsLot, IsRewound, IsSound, LotView, StandsWith, held, pages_of}
 use Rattle.lot_store.specs.LotKeeping.{Keeps, MovesSegments}
-use Rattle.lot_store.specs.Reads.{BeginsAt, BeginsRun, HandsOver, IsAtFirst}
+use Rattle.lot_store.specs.Reads.{BeginsAt, BeginsRun, HandsOver}
 use Rattle.lot_store.proofs.RestLemmas.{GaveBack, stored_same}
 
 -- A reader at the first page of a run has its pages left.
@@ -107,8 +107,8 @@ left_at m s t f g size rows over fits stands bytes lengths within =
       text = ap (λ ps. parts s.kept ++ (joined ps ++ parts s.last)) same ∙ bytes;
       lengths = lengths;
       reach = subst (λ sizes. IsWithinReach f.reach sizes rows) (ap (λ xs. behind 0 (sizes_of s.kept ++ (xs ++ sizes_of s.last))) (sym e))
-      (reach_first f.reach (sizes_of s.kept ++ (spill_sizes ++ sizes_of s.last)) rows
-      (subst (λ sizes. IsWithinReach f.reach sizes rows) (append_assoc (sizes_of s.kept) spill_sizes (sizes_of s.last)) within));
+          (reach_first f.reach (sizes_of s.kept ++ (spill_sizes ++ sizes_of s.last)) rows
+          (subst (λ sizes. IsWithinReach f.reach sizes rows) (append_assoc (sizes_of s.kept) spill_sizes (sizes_of s.last)) within));
     })
 
 -- What segments of another size weigh.
@@ -124,8 +124,7 @@ blank_fits : (size : ℕ) (a : LotView) (g : Fed) (p q t : List Page) → GaveBa
 blank_fits size a g p q t back took own others =
     let own_weight : weigh (misfit size) (held a) ≡ 0 = own in
     let other_weight : weigh (misfit size) p ≡ 0 = others in
-    let whole : weigh (misfit size) (held a) ≡ weigh (misfit size) (held_stored (pages_of a)) + weigh (misfit size) (lent a.feed) = weigh-append (misfit size) (held_stored (pages_of a)) (lent a.feed) in
-    (
+    let whole : weigh (misfit size) (held a) ≡ weigh (misfit size) (held_stored (pages_of a)) + weigh (misfit size) (lent a.feed) = weigh-append (misfit size) (held_stored (pages_of a)) (lent a.feed) in (
       omega (arith, own_weight, other_weight, whole, back (misfit size), took (misfit size)),
       omega (arith, own_weight, other_weight, whole, back (misfit size), took (misfit size)),
     )
@@ -179,18 +178,17 @@ rows_rewound_at : (m : Blocks) (a b c : LotView) (p q t : List Page) (size : ℕ
     → StandsWith size a p m → HoldsRows m a rows → HoldsRows m c rows × HasLeft m c.feed rows
 rows_rewound_at m a b c p q t size rows is reach back begins took st holds =
     let pages : pages_of c ≡ pages_of a = pages_rewound a b c is begins in
-    let same : c.feed.reach ≡ a.feed.reach = ap (λ (f : Fed). f.reach) begins.feed ∙ reach in
-    (
+    let same : c.feed.reach ≡ a.feed.reach = ap (λ (f : Fed). f.reach) begins.feed ∙ reach in (
       record {
         bytes = ap (text_stored m) pages ∙ holds.bytes;
         lengths = holds.lengths;
         reach = subst (λ k. IsWithinReach k (sizes_stored m (pages_of c)) rows) (sym same) (subst (λ u. IsWithinReach a.feed.reach (sizes_stored m u) rows) (sym pages) holds.reach);
       },
       left_at m b.stored c.stored b.feed c.feed size rows begins (blank_fits size a c.feed p q t back took st.own st.others).0
-      (subst (λ (u : Stored). IsSpilled m size u.run) (sym is) st.spilled)
-      (ap (text_stored m) is ∙ holds.bytes)
-      holds.lengths
-      (subst (λ k. IsWithinReach k (sizes_stored m b.stored) rows) (sym reach) (subst (λ u. IsWithinReach a.feed.reach (sizes_stored m u) rows) (sym is) holds.reach)),
+          (subst (λ (u : Stored). IsSpilled m size u.run) (sym is) st.spilled)
+          (ap (text_stored m) is ∙ holds.bytes)
+          holds.lengths
+          (subst (λ k. IsWithinReach k (sizes_stored m b.stored) rows) (sym reach) (subst (λ u. IsWithinReach a.feed.reach (sizes_stored m u) rows) (sym is) holds.reach)),
     )
 
 pub rows_rewound : (told : Option Blocks) (a b c : LotView) (p q t : List Page) → b.stored ≡ pages_of a → b.feed.reach ≡ a.feed.reach → GaveBack a p q → BeginsAt b c → TookOut c.feed q t

@@ -1,17 +1,16 @@
 -- A lot that stopped reading: what its pages keep and add is what the lot does.
-use Rattle.std.proofs.Common.{◌≡◌, inl, ℕ, ◌+◌, ◌-◌, ◌<◌, ◌≤◌, ◌==◌, cond, not, List, [], ◌∷◌, ◌++◌, length, replicate, Result, Ok, Err, OnOk, IsSome, Option, Some, None, refl, sym, ap, ◌∙◌, subst, arith, append-nil}
+use Rattle.std.proofs.Common.{◌≡◌, ℕ, ◌+◌, ◌-◌, ◌<◌, ◌≤◌, ◌==◌, cond, not, List, [], ◌∷◌, ◌++◌, length, replicate, Result, OnOk, IsSome, Option, Some, None, refl, sym, ap, ◌∙◌, subst, arith, append-nil}
 use Rattle.std.proofs.lemmas.List.Elements.{All-nil}
 use Rattle.paged_view.specs.Pages.{part}
-use Rattle.segment_core.specs.Segments.{Page, misfits, weigh}
+use Rattle.segment_core.specs.Segments.{Page, weigh}
 use Rattle.segment_core.proofs.Weighing.{weigh-append, weigh-cons, weigh-ones}
 use Rattle.flow_outside.specs.Blocks.{Blocks, BothTold}
-use Rattle.flow_outside.specs.Told.{IfTold}
 use Rattle.page_feed.specs.Feeds.{Fed, HasBlockLeft, held as held_fed, kept_in, last_in, lent, stopped}
 use Rattle.spool.specs.declared.writer.RunWriter.{RunWriter}
-use Rattle.lot_store.specs.Spilling.{FreesBlocks, IsSpilled, OwnsBlock}
-use Rattle.lot_store.specs.Stores.{Stored, StandsWith as StoredStands, IsSound as IsStoredSound, held as held_stored, sizes as sizes_stored, text as text_stored}
+use Rattle.lot_store.specs.Spilling.{IsSpilled}
+use Rattle.lot_store.specs.Stores.{Stored, StandsWith as StoredStands, IsSound as IsStoredSound, held as held_stored, text as text_stored}
 use Rattle.lot_store.specs.Keeping.{AddsPages, AddsFullPages as StoredAddsFull, AddsText as StoredAdds, Keeps as StoredKeeps, KeepsOthers as StoredKeepsOthers, MovesSegments as StoredMoves, PutsPage as PutsInto}
-use Rattle.lot_store.specs.Lots.{IsAtRest, IsLot, IsSound, LotView, StandsWith, held, pages_of, text}
+use Rattle.lot_store.specs.Lots.{IsLot, IsSound, LotView, StandsWith, held, pages_of}
 use Rattle.lot_store.specs.LotKeeping.{AddsFullPages, AddsText, Keeps, KeepsOthers, MovesSegments, PutsPage}
 use Rattle.lot_store.proofs.SpillLemmas.{told_with}
 use Rattle.lot_store.proofs.LotLemmas.{nothing, on_ok_map}

@@ -22,7 +22,7 @@ use Rattle.page_feed.proofs.LawLemmas.{appending_stays}
 use Rattle.lot_store.specs.Spilling.{IsSpilled, spilled}
 use Rattle.lot_store.specs.Stores.{ArePages, Stored, StandsWith as StoredStands, held as held_stored, sizes as sizes_stored, stored_sizes, text as text_stored}
 use Rattle.lot_store.specs.Keeping.{AddsFullPages as StoredAddsFull, AddsText as StoredAdds, Keeps as StoredKeeps}
-use Rattle.lot_store.specs.Lots.{HoldsRows, LotView, StandsWith, pages_of}
+use Rattle.lot_store.specs.Lots.{LotView, pages_of}
 use Rattle.lot_store.specs.LotKeeping.{AddsRow}
 use Rattle.lot_store.proofs.SpillLemmas.{told_both, told_with}
 use Rattle.lot_store.proofs.LotLemmas.{nothing}

@@ -1,5 +1,5 @@
 -- Lots as contracts see them, and the bytes and records that they stand for. The rules are this project's own.
-use Rattle.std.specs.Prelude.{◌≡◌, ◌^◌, ◌+◌, ◌<◌, ◌≤◌, ℕ, List, [], ◌++◌, All, length, Option, Some, None, ⊤}
+use Rattle.std.specs.Prelude.{◌≡◌, ◌^◌, ◌+◌, ◌<◌, ◌≤◌, ℕ, List, [], ◌++◌, All, length, Option, Some, None}
 use Rattle.segment_core.specs.Segments.{Page, misfits}
 use Rattle.flow_outside.specs.Blocks.{Blocks}
 use Rattle.flow_outside.specs.Told.{IfTold}

@@ -50,7 +50,11 @@ pub(crate) fn give_pages(
     requires one { vec_len last.old ≤ 1 }
     requires supply { feed.old.reach ≤ length purse.old.pages }
     ensures begins { feed.new ≡ record (stopped feed.old.room feed.old.reach) {
-        ahead = kept.old.items; run = run; last = last.old.items; blank = feed.new.blank } }
+      ahead = kept.old.items;
+      run = run;
+      last = last.old.items;
+      blank = feed.new.blank;
+    } }
     ensures started { IsStarted feed.new }
     ensures kept { kept.new.items ≡ [] }
     ensures kept_len { vec_len kept.new ≡ 0 }

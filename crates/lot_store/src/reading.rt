@@ -19,11 +19,7 @@ use segment_core::Purse;
 impl Lot {
     /// Begins to read the lot's records, at the first. It takes `reach` segments for reading out of the purse,
     /// and calls no device: its answer is always Ok.
-    pub fn rewind<D: Spill>(
-        &mut self,
-        purse: &mut Purse,
-        disk: &mut D,
-    ) -> Result<(), StreamFault>
+    pub fn rewind<D: Spill>(&mut self, purse: &mut Purse, disk: &mut D) -> Result<(), StreamFault>
         requires supply { self.old.feed.reach ≤ length purse.old.pages + length (lent self.old.feed) }
         requires room { length purse.old.pages + length (segments_of self.old) ≤ purse.old.room }
         requires sound { IsSound (D.told disk.old) self.old purse.old.pages }

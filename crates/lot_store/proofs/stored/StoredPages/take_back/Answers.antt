@@ -1,4 +1,4 @@
-use Rattle.std.proofs.Common.{ap, arith}
+use Rattle.std.proofs.Common.{length, ap, arith}
 use Rattle.page_feed.specs.Feeds.{kept_in, last_in}
 use Rattle.lot_store.specs.Stores.{Stored}
 use Rattle.lot_store.proofs.StoreLemmas.{store_taken}
