@@ -1,26 +1,35 @@
 -- What leaves the blocks of others leaves a lot that stands apart.
-use Rattle.std.proofs.Common.{◌≡◌, ℕ, ◌++◌, Option, Some, None, refl, ap}
+use Rattle.std.proofs.Common.{◌≡◌, ℕ, ◌-◌, List, ◌++◌, Option, Some, None, length, map, refl, ap, ◌∙◌, subst, sym}
 use Rattle.flow_outside.specs.Blocks.{Blocks}
-use Rattle.paged_view.specs.Pages.{parts}
+use Rattle.paged_view.specs.Pages.{part, parts}
+use Rattle.spool.specs.Headers.{as_page}
+use Rattle.spool.specs.Reading.{number_at}
 use Rattle.spool.specs.Runs.{HasBlock, joined}
 use Rattle.spool.specs.Changes.{IsKept}
+use Rattle.spool.specs.declared.place.RunReader.{RunReader}
 use Rattle.spool.specs.declared.writer.RunWriter.{RunWriter}
-use Rattle.spool.proofs.ChainLemmas.{chain_lives}
+use Rattle.spool.proofs.ChainLemmas.{SameChain, chain_lives, same_chain, stands_kept}
 use Rattle.spool.proofs.PushLemmas.{writer_stays}
-use Rattle.lot_store.specs.Spilling.{IsSpilled, LeavesOthers, spilled}
-use Rattle.lot_store.specs.Lots.{Stored}
+use Rattle.page_feed.specs.Feeds.{Fed, HasBlockLeft, HasLeft, IsLeftReadable, pages_left}
+use Rattle.page_feed.specs.Reach.{IsWithinReach, behind, sizes_of}
+use Rattle.lot_store.specs.Spilling.{IsSpilled, LeavesOthers, OwnsBlock, spilled}
+use Rattle.lot_store.specs.Lots.{LotView, ReadsOwn, pages_of, text}
 use Rattle.lot_store.specs.Laws.{AreApart, IsOther}
 
 -- The same of a run.
 pub record IsOtherRun (size : ℕ) (mine : Option RunWriter) (run : Option RunWriter) (old new : Blocks) : Type 0 where
   pub stands : IsSpilled new size run
   pub same : spilled new run ≡ spilled old run
+  pub owns : (block : ℕ) → OwnsBlock old run block → OwnsBlock new run block
+  pub blocks : (block : ℕ) → OwnsBlock old run block → new block ≡ old block
   pub apart : AreApart new mine run
 
 other_run : (m n : Blocks) (before after : Option RunWriter) (size : ℕ) (run : Option RunWriter) → LeavesOthers before after m n → IsSpilled m size run → AreApart m before run → IsOtherRun size after run m n
 other_run m n before after size None leaves stands apart = record {
   stands = tt;
   same = refl;
+  owns = λ k own. own;
+  blocks = λ k own. absurd own;
   apart = λ k mine other. other;
 }
 other_run m n before after size (Some writer) leaves stands apart =
@@ -29,14 +38,51 @@ other_run m n before after size (Some writer) leaves stands apart =
     record {
       stands = kept.written;
       same = kept.pages;
+      owns = λ k own. (kept.blocks k).1 own;
+      blocks = λ k own. (left k own).0;
       apart = λ k mine other. (left k ((kept.blocks k).0 other)).1 mine;
     }
 
-pub other_lot : (old new : Blocks) (before after : Option RunWriter) (size : ℕ) (lot : Stored) → LeavesOthers before after old new → IsSpilled old size lot.run → AreApart old before lot.run → IsOther size after lot old new
-other_lot old new before after size lot leaves stands apart =
-    let run : IsOtherRun size after lot.run old new = other_run old new before after size lot.run leaves stands apart in
+-- What is left of a run whose blocks stand is left as it was.
+record IsOtherLeft (run : Option RunReader) (old new : Blocks) : Type 0 where
+  pub pages : pages_left new run ≡ pages_left old run
+  pub readable : (size : ℕ) → IsLeftReadable old size run → IsLeftReadable new size run
+  pub had : (block : ℕ) → HasBlockLeft new run block → HasBlockLeft old run block
+
+other_left : (m n : Blocks) (run : Option RunReader) → ((block : ℕ) → HasBlockLeft m run block → n block ≡ m block) → IsOtherLeft run m n
+other_left m n None same = record { pages = refl; readable = λ size h. h; had = λ block h. h }
+other_left m n (Some reader) same =
+    let chain : SameChain m n reader.at reader.left = same_chain m n reader.at reader.left same in
+    record {
+      pages = chain.pages;
+      readable = λ size h. stands_kept m n size (number_at reader) reader.at reader.left same h;
+      had = chain.had;
+    }
+
+other_rows : (m n : Blocks) (f : Fed) (rows : List (List ℕ)) → IsOtherLeft f.run m n → HasLeft m f rows → HasLeft n f rows
+other_rows m n f rows other left = record {
+  size = left.size;
+  sized = left.sized;
+  run = other.readable left.size left.run;
+  text = ap (λ ps. f.reader.text ++ (parts f.ahead ++ (joined ps ++ parts f.last))) other.pages ∙ left.text;
+  lengths = left.lengths;
+  reach = subst (λ ps. IsWithinReach f.reach (behind (length (parts f.reader.pages) - length f.reader.text) (sizes_of f.reader.pages ++ (sizes_of f.ahead ++ (map (λ page. length (part (as_page page))) ps ++ sizes_of f.last)))) rows) (sym other.pages) left.reach;
+}
+
+pub other_lot : (old new : Blocks) (before after : Option RunWriter) (size : ℕ) (lot : LotView) → LeavesOthers before after old new → IsSpilled old size lot.stored.run → ReadsOwn old lot → AreApart old before lot.stored.run → IsOther size after lot old new
+other_lot old new before after size lot leaves stands reads apart =
+    let run : IsOtherRun size after lot.stored.run old new = other_run old new before after size lot.stored.run leaves stands apart in
+    let left : IsOtherLeft lot.feed.run old new = other_left old new lot.feed.run (λ block h. run.blocks block (reads block h)) in
+    let same : text new lot ≡ text old lot = ap (λ pages. parts (pages_of lot).kept ++ (joined pages ++ parts (pages_of lot).last)) run.same in
     record {
       stands = run.stands;
-      same = ap (λ pages. parts lot.kept ++ (joined pages ++ parts lot.last)) run.same;
+      reads = λ block h. run.owns block (reads block (left.had block h));
+      same = same;
+      holds = λ rows holds. record {
+        bytes = same ∙ holds.bytes;
+        lengths = holds.lengths;
+        reach = subst (λ pages. IsWithinReach lot.feed.reach ((sizes_of (pages_of lot).kept ++ map (λ page. length (part (as_page page))) pages) ++ sizes_of (pages_of lot).last) rows) (sym run.same) holds.reach;
+      };
+      left = λ rows h. other_rows old new lot.feed rows left h;
       apart = run.apart;
     }

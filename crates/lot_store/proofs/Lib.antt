@@ -1,5 +1,11 @@
 pub mod PageLemmas
+pub mod GrowthLemmas
 pub mod SpillLemmas
 pub mod LotLemmas
 pub mod StepLemmas
+pub mod FullLemmas
+pub mod StoreLemmas
+pub mod RestLemmas
+pub mod ReadLemmas
+pub mod RowLemmas
 pub mod LawLemmas

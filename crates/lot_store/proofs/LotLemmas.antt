@@ -9,13 +9,13 @@ use Rattle.flow_outside.specs.Told.{IfTold}
 use Rattle.paged_view.specs.Pages.{part, parts}
 use Rattle.spool.specs.Headers.{IsSameSegment, as_page}
 use Rattle.spool.specs.Runs.{joined}
-use Rattle.lot_store.specs.Spilling.{IsLonger, IsUnchanged, IsSpilled, OwnsBlock, spilled}
-use Rattle.lot_store.specs.Lots.{Stored, IsSound, held, text}
+use Rattle.lot_store.specs.Spilling.{IsFreeOrOwn, IsLonger, IsUnchanged, IsSpilled, OwnsBlock, spilled}
+use Rattle.lot_store.specs.Stores.{Stored, IsSound, held, text}
 use Rattle.lot_store.specs.Keeping.{Keeps, MovesSegments, AddsText}
 use Rattle.lot_store.proofs.SpillLemmas.{told_with}
 
 -- Nothing is true of whatever is told.
-nothing : (t : Option Blocks) → IfTold t (λ m. Unit {0})
+pub nothing : (t : Option Blocks) → IfTold t (λ m. Unit {0})
 nothing None = tt
 nothing (Some m) = tt
 
@@ -28,7 +28,7 @@ moved_fit size before after purse rest moves fits purse_fits =
     (omega (arith, e, fits, purse_fits), omega (arith, e, fits, purse_fits))
 
 -- Nothing was written: the lot has the same run.
-keeps_same : (m : Blocks) (before after : Stored) (purse rest : List Page) → MovesSegments before after purse rest → after.run ≡ before.run → Keeps before after purse rest m m
+pub keeps_same : (m : Blocks) (before after : Stored) (purse rest : List Page) → MovesSegments before after purse rest → after.run ≡ before.run → Keeps before after purse rest m m
 keeps_same m before after purse rest moves same = record {
   stands = λ size s. let fit = moved_fit size before after purse rest moves s.own s.others in record {
     own = fit.0;
@@ -36,6 +36,7 @@ keeps_same m before after purse rest moves same = record {
     spilled = subst (IsSpilled m size) (sym same) s.spilled;
   };
   others = λ k live other. (refl, λ h. other (subst (λ r. OwnsBlock m r k) same h));
+  owns = λ k state. subst (λ r. IsFreeOrOwn m r k) (sym same) state;
 }
 
 pub keeps_same_told : (t : Option Blocks) (before after : Stored) (purse rest : List Page) → MovesSegments before after purse rest → after.run ≡ before.run → BothTold t t (Keeps before after purse rest)
@@ -67,6 +68,7 @@ keeps_longer t u before after page bytes purse rest moves change =
         spilled = subst (λ k. IsSpilled n k after.run) (fits_first size page purse s.others) c.stands;
       };
       others = c.others;
+      owns = c.owns;
     })
     (nothing t) change
 
@@ -81,6 +83,7 @@ keeps_unchanged t u before after page purse rest moves change =
         spilled = subst (λ k. IsSpilled n k after.run) (fits_first size page purse s.others) c.stands;
       };
       others = c.others;
+      owns = c.owns;
     })
     (nothing t) change
 

@@ -1,5 +1,5 @@
 -- What spilling a page does to a disk.
-use Rattle.std.proofs.Common.{◌≡◌, ◌≢◌, ℕ, List, [], ◌∷◌, ◌++◌, Option, Some, None, refl, sym, ap, ◌∙◌, subst}
+use Rattle.std.proofs.Common.{◌≡◌, ◌≢◌, inl, inr, ℕ, ◌+◌, List, [], ◌∷◌, ◌++◌, Option, Some, None, refl, sym, ap, ◌∙◌, subst}
 use Rattle.flow_outside.specs.Blocks.{Blocks, BothTold, Becomes, IsGiven}
 use Rattle.flow_outside.specs.Told.{IfTold}
 use Rattle.spool.specs.Runs.{pages_at, HasBlock, IsWritten}
@@ -7,6 +7,7 @@ use Rattle.spool.specs.Changes.{IsAppended, IsKept, IsPushed, LeavesOpen}
 use Rattle.spool.specs.declared.writer.RunWriter.{RunWriter}
 use Rattle.spool.proofs.PushLemmas.{push_leaves, open_leaves}
 use Rattle.lot_store.specs.Spilling.{IsLonger, IsUnchanged}
+use Rattle.lot_store.proofs.GrowthLemmas.{begun_owns, open_owns, push_owns, withdrawn_owns}
 
 -- Two changes of a disk, one after the other.
 pub told_join : (t u v : Option Blocks) (P Q R : Blocks → Blocks → Type 0) → ((k m n : Blocks) → P k m → Q m n → R k n) → BothTold t u P → BothTold u v Q → BothTold t v R
@@ -33,24 +34,26 @@ told_both (Some m) (Some n) P Q p q = (p, q)
 
 -- A page was pushed behind those of a writer.
 longer : (size : ℕ) (before after : RunWriter) (page : List ℕ) (m n : Blocks) → IsWritten m size before
-    → IsAppended before.end after.end page m n → IsPushed size before after page m n
+    → after.first ≡ before.first → after.pages ≡ before.pages + 1 → IsAppended before.end after.end page m n → IsPushed size before after page m n
     → IsLonger size (Some before) (Some after) page m n
-longer size before after page m n written change more = record {
+longer size before after page m n written first pages change more = record {
   stands = more.written;
   pages = more.pages;
   others = λ k live other. push_leaves m n size before after page written change more k live other;
+  owns = push_owns m n size before after page written first pages change more;
 }
 
 pub longer_told : (t u : Option Blocks) (size : ℕ) (before after : RunWriter) (page : List ℕ)
+    → (after.first ≡ before.first) × (after.pages ≡ before.pages + 1)
     → IfTold t (λ m. IsWritten m size before)
     → BothTold t u (IsAppended before.end after.end page)
     → BothTold t u (λ old new. IsWritten old size before → IsPushed size before after page old new)
     → BothTold t u (IsLonger size (Some before) (Some after) page)
-longer_told t u size before after page written change more =
+longer_told t u size before after page counted written change more =
     told_with t u (λ m. IsWritten m size before)
     (λ old new. IsAppended before.end after.end page old new × (IsWritten old size before → IsPushed size before after page old new))
     (IsLonger size (Some before) (Some after) page)
-    (λ m n w p. longer size before after page m n w p.0 (p.1 w))
+    (λ m n w p. longer size before after page m n w counted.0 counted.1 p.0 (p.1 w))
     written (told_both t u _ _ change more)
 
 -- A page wasn't pushed: the writer's run is what it was.
@@ -61,6 +64,7 @@ unchanged size writer m n written change kept = record {
   stands = kept.written;
   pages = kept.pages;
   others = λ k live other. open_leaves m n size writer written change k other;
+  owns = open_owns m n size writer written change kept;
 }
 
 pub unchanged_told : (t u : Option Blocks) (size : ℕ) (before after : RunWriter)
@@ -79,10 +83,11 @@ unchanged_told t u size before after written same change kept =
 
 -- A run was begun with a page.
 begun : (size : ℕ) (writer after : RunWriter) (page : List ℕ) (k m n : Blocks) → writer.pages ≡ 0 → writer.end ≡ writer.first
+    → after.first ≡ writer.first → after.pages ≡ writer.pages + 1
     → IsGiven writer.first k m → IsWritten m size writer
     → IsAppended writer.end after.end page m n → IsPushed size writer after page m n
     → IsLonger size None (Some after) page k n
-begun size writer after page k m n none end given written change more =
+begun size writer after page k m n none end first pages given written change more =
     let none_yet : pages_at m writer.first writer.pages ≡ [] = ap (pages_at m writer.first) none in
     record {
       stands = more.written;
@@ -94,20 +99,22 @@ begun size writer after page k m n none end given written change more =
             left.0 ∙ same,
             left.1,
           );
+      owns = begun_owns k m n size writer after page none given (push_owns m n size writer after page written first pages change more);
     }
 
 pub begun_told : (t u v : Option Blocks) (size : ℕ) (writer after : RunWriter) (page : List ℕ)
     → writer.pages ≡ 0 → writer.end ≡ writer.first
+    → (after.first ≡ writer.first) × (after.pages ≡ writer.pages + 1)
     → BothTold t u (IsGiven writer.first)
     → IfTold u (λ m. (s : ℕ) → IsWritten m s writer)
     → BothTold u v (IsAppended writer.end after.end page)
     → BothTold u v (λ old new. IsWritten old size writer → IsPushed size writer after page old new)
     → BothTold t v (IsLonger size None (Some after) page)
-begun_told t u v size writer after page none end given written change more =
+begun_told t u v size writer after page none end counted given written change more =
     told_join t u v (IsGiven writer.first)
     (λ m n. IsWritten m size writer × (IsAppended writer.end after.end page m n × IsPushed size writer after page m n))
     (IsLonger size None (Some after) page)
-    (λ k m n g p. begun size writer after page k m n none end g p.0 p.1.0 p.1.1)
+    (λ k m n g p. begun size writer after page k m n none end counted.0 counted.1 g p.0 p.1.0 p.1.1)
     given
     (told_with u v (λ m. (s : ℕ) → IsWritten m s writer)
     (λ old new. IsAppended writer.end after.end page old new × (IsWritten old size writer → IsPushed size writer after page old new))
@@ -125,6 +132,7 @@ withdrawn size first end k m n o same given change freed = record {
         freed.others b apart ∙ change.others b (λ is. apart (is ∙ same)) ∙ given.becomes.others b apart,
         (λ h. h),
       );
+  owns = withdrawn_owns k m n o first end same given change freed;
 }
 
 pub withdrawn_told : (t u v w : Option Blocks) (size first end : ℕ) → end ≡ first
@@ -147,4 +155,8 @@ nothing_told (Some m) (Some n) size same = record {
   stands = tt;
   pages = refl;
   others = λ b live other. (ap (λ (o : Option Blocks). elim o [ None ↦ m b | Some blocks ↦ blocks b ]) same, (λ h. h));
+  owns = λ b state. elim state [
+    | inl none ↦ inl (ap (λ (o : Option Blocks). elim o [ None ↦ m b | Some blocks ↦ blocks b ]) same ∙ none)
+    | inr had ↦ absurd had
+  ];
 }

@@ -1,5 +1,5 @@
 -- Steps of a lot, one after the other.
-use Rattle.std.proofs.Common.{◌≡◌, ℕ, ◌+◌, ◌-◌, ◌<◌, ◌≤◌, take, drop, Result, Ok, Err, IfOk, OnOk, List, [], ◌∷◌, ◌++◌, length, Option, Some, None, refl, sym, ap, ◌∙◌, subst, arith, append_assoc, append-nil}
+use Rattle.std.proofs.Common.{◌≡◌, inl, ℕ, ◌+◌, ◌-◌, ◌<◌, ◌≤◌, take, drop, Result, Ok, Err, IfOk, OnOk, List, [], ◌∷◌, ◌++◌, length, Option, Some, None, refl, sym, ap, ◌∙◌, subst, arith, append_assoc, append-nil}
 use Rattle.segment_core.specs.Segments.{Page, weigh}
 use Rattle.segment_core.proofs.Weighing.{fits_first, fits_rest, weigh-append, weigh-cons, weigh-one, weigh-ones, weigh-push}
 use Rattle.flow_outside.specs.Blocks.{Blocks, BothTold}
@@ -12,11 +12,12 @@ use Rattle.spool.specs.Runs.{HasBlock, IsRun, IsWritten, joined}
 use Rattle.spool.specs.Changes.{LeavesOthers as LeavesBut}
 use Rattle.spool.specs.declared.run.Run.{Run}
 use Rattle.spool.specs.declared.writer.RunWriter.{RunWriter}
+use Rattle.spool.proofs.ChainLemmas.{chain_lives}
 use Rattle.lot_store.specs.Spilling.{HasWriteCause, IsSpilled, OwnsBlock, StandsAlone, spilled}
-use Rattle.lot_store.specs.Lots.{IsSound, Stored, held, text}
-use Rattle.lot_store.specs.Keeping.{Keeps, MovesSegments, AddsText, Trades}
-use Rattle.lot_store.proofs.SpillLemmas.{told_join}
-use Rattle.lot_store.proofs.LotLemmas.{keeps_same_told, misfits_more, moved_fit, on_ok_map}
+use Rattle.lot_store.specs.Stores.{IsSound, Stored, held, text}
+use Rattle.lot_store.specs.Keeping.{Keeps, KeepsOthers, MovesSegments, AddsText, Trades}
+use Rattle.lot_store.proofs.SpillLemmas.{told_join, told_with}
+use Rattle.lot_store.proofs.LotLemmas.{keeps_same_told, misfits_more, moved_fit, nothing, on_ok_map}
 use Rattle.paged_view.proofs.WritingLemmas.{text_piece, text_span}
 
 -- What is kept by one step and by the next is kept by both.
@@ -27,6 +28,7 @@ keeps_join a b c p q r k m n first next = record {
       let one = first.others block live other in
       let two = next.others block (λ gone. live (sym one.0 ∙ gone)) one.1 in
       (two.0 ∙ one.0, two.1);
+  owns = λ block state. next.owns block (first.owns block state);
 }
 
 pub keeps_told : (t u v : Option Blocks) (a b c : Stored) (p q r : List Page) → BothTold t u (Keeps a b p q) → BothTold u v (Keeps b c q r) → BothTold t v (Keeps a c p r)
@@ -212,6 +214,7 @@ keeps_beside_at a b page p q m n keeps = record {
         spilled = t.spilled;
       };
   others = keeps.others;
+  owns = keeps.owns;
 }
 
 pub keeps_beside : (t u : Option Blocks) (a b : Stored) (page : Page) (p q : List Page) → BothTold t u (Keeps a b p q) → BothTold t u (Keeps a b (page ∷ p) (page ∷ q))
@@ -285,9 +288,9 @@ stands_alone (Some m) a b p q writer run (size, s) moves was is =
     let w : IsWritten m size writer = subst (IsSpilled m size) was s.spilled in
     (size, (moved_fit size a b p q moves s.own s.others).1, subst (IsRun m size) (sym is) w.stands)
 
--- A lot whose run ended keeps what it has.
-keeps_ended_at : (m n : Blocks) (a b : Stored) (p q : List Page) (writer : RunWriter) (run : Run) → MovesSegments a b p q → a.run ≡ Some writer → b.run ≡ None → run ≡ record { first = writer.first; pages = writer.pages } → LeavesBut run m n → Keeps a b p q m n
-keeps_ended_at m n a b p q writer run moves was none is others = record {
+-- A lot whose run ended keeps what it has, and leaves what others have.
+keeps_ended_at : (m n : Blocks) (a b : Stored) (p q : List Page) (writer : RunWriter) (run : Run) → MovesSegments a b p q → a.run ≡ Some writer → b.run ≡ None → run ≡ record { first = writer.first; pages = writer.pages } → StandsAlone run q m → LeavesBut run m n → KeepsOthers a b p q m n
+keeps_ended_at m n a b p q writer run moves was none is alone others = record {
   stands = λ size s. let fit = moved_fit size a b p q moves s.own s.others in record {
     own = fit.0;
     others = fit.1;
@@ -297,14 +300,28 @@ keeps_ended_at m n a b p q writer run moves was none is others = record {
     others k (λ h. other (subst (λ r. OwnsBlock m r k) (sym was) (subst (λ r. HasBlock m r.first r.pages k) is h))),
     (λ h. subst (λ r. OwnsBlock n r k) none h),
   );
+  fresh = λ k free. inl (others k (λ h. chain_lives m alone.0 0 run.first run.pages alone.2 k h free) ∙ free);
 }
 
-pub keeps_ended : (t u : Option Blocks) (a b : Stored) (p q : List Page) (writer : RunWriter) (run : Run) → MovesSegments a b p q → a.run ≡ Some writer → b.run ≡ None → run ≡ record { first = writer.first; pages = writer.pages } → BothTold t u (LeavesBut run) → BothTold t u (Keeps a b p q)
-keeps_ended None None a b p q writer run moves was none is others = tt
-keeps_ended None (Some n) a b p q writer run moves was none is others = others
-keeps_ended (Some m) None a b p q writer run moves was none is others = others
-keeps_ended (Some m) (Some n) a b p q writer run moves was none is others =
-    keeps_ended_at m n a b p q writer run moves was none is others
+pub keeps_ended : (t u : Option Blocks) (a b : Stored) (p q : List Page) (writer : RunWriter) (run : Run) → MovesSegments a b p q → a.run ≡ Some writer → b.run ≡ None → run ≡ record { first = writer.first; pages = writer.pages } → IfTold t (StandsAlone run q) → BothTold t u (LeavesBut run) → BothTold t u (KeepsOthers a b p q)
+keeps_ended t u a b p q writer run moves was none is alone others =
+    told_with t u (StandsAlone run q) (LeavesBut run) (KeepsOthers a b p q)
+    (λ m n s o. keeps_ended_at m n a b p q writer run moves was none is s o)
+    alone others
+
+-- What keeps a lot and what is its own leaves what others have.
+pub keeps_others : (t u : Option Blocks) (a b : Stored) (p q : List Page) → BothTold t u (Keeps a b p q) → BothTold t u (KeepsOthers a b p q)
+keeps_others t u a b p q keeps =
+    told_with t u (λ m. Unit {0}) (Keeps a b p q) (KeepsOthers a b p q)
+    (λ m n _ k. record { stands = k.stands; others = k.others; fresh = λ block free. k.owns block (inl free) })
+    (nothing t) keeps
+
+-- A lot that left what others have is sound.
+pub sound_ended : (t u : Option Blocks) (a b : Stored) (p q : List Page) → IsSound t a p → BothTold t u (KeepsOthers a b p q) → IsSound u b q
+sound_ended None None a b p q sound keeps = tt
+sound_ended None (Some n) a b p q sound keeps = absurd keeps
+sound_ended (Some m) None a b p q sound keeps = tt
+sound_ended (Some m) (Some n) a b p q (size, s) keeps = (size, keeps.stands size s)
 
 -- The same segments, in another purse of the same weight.
 pub moves_ended : (a b c : Stored) (p q r : List Page) → MovesSegments a b p q → c.kept ≡ b.kept → c.last ≡ b.last → ((h : ℕ → ℕ → ℕ) → weigh h r ≡ weigh h q) → MovesSegments a c p r

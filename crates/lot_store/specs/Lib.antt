@@ -1,4 +1,7 @@
 pub mod Spilling
-pub mod Lots
+pub mod Stores
 pub mod Keeping
+pub mod Lots
+pub mod LotKeeping
+pub mod Reads
 pub mod Laws

@@ -1,48 +1,94 @@
--- Lots as contracts see them, and the bytes that they stand for. The rules are this project's own.
-use Rattle.std.specs.Prelude.{◌≡◌, ◌<◌, ◌≤◌, ℕ, List, ◌++◌, length, Option}
+-- Lots as contracts see them, and the bytes and records that they stand for. The rules are this project's own.
+use Rattle.std.specs.Prelude.{◌≡◌, ◌^◌, ◌+◌, ◌<◌, ◌≤◌, ℕ, List, [], ◌++◌, All, length, Option, Some, None}
 use Rattle.segment_core.specs.Segments.{Page, misfits}
 use Rattle.flow_outside.specs.Blocks.{Blocks}
 use Rattle.flow_outside.specs.Told.{IfTold}
-use Rattle.paged_view.specs.Pages.{body, page_at, parts, used}
-use Rattle.spool.specs.Runs.{joined}
-use Rattle.spool.specs.declared.writer.RunWriter.{RunWriter}
-use Rattle.lot_store.specs.Spilling.{IsSpilled, spilled}
+use Rattle.flow_types.specs.Records.{frames}
+use Rattle.paged_view.specs.Pages.{body, page_at, part, used}
+use Rattle.page_feed.specs.Feeds.{Fed, HasBlockLeft, HasLeft, IsStarted, kept_in, last_in, lent, stopped}
+use Rattle.page_feed.specs.Reach.{IsWithinReach}
+use Rattle.lot_store.specs.Spilling.{IsSpilled, OwnsBlock}
+use Rattle.lot_store.specs.Stores.{Stored, held as held_stored, sizes as sizes_stored, text as text_stored}
 
--- A lot is seen as the most full pages that it keeps in segments, the most pages that a record of its touches, its first
--- pages, which are kept in segments, the run of those behind them, which are spilled, and the page under way behind
--- all of these, where there is one.
-pub record Stored : Type 0 where
-  pub room : ℕ
-  pub reach : ℕ
-  pub kept : List Page
-  pub run : Option RunWriter
-  pub last : List Page
+-- A lot is seen as its pages while they are written, and the feed that reads them. While it is read, the feed has those of
+-- its pages that stand in segments.
+pub record LotView : Type 0 where
+  pub stored : Stored
+  pub feed : Fed
 
--- the segments that a lot holds
-abbrev pub held : Stored → List Page
-held lot = lot.kept ++ lot.last
+-- the lot's pages, wherever they stand
+abbrev pub pages_of : LotView → Stored
+pages_of lot = record {
+  room = lot.stored.room;
+  kept = lot.stored.kept ++ kept_in lot.feed;
+  run = lot.stored.run;
+  last = lot.stored.last ++ last_in lot.feed;
+}
 
--- The bytes that a lot stands for: the used bytes of its pages, kept, spilled and under way, one after the other.
-abbrev pub text : Blocks → Stored → List ℕ
-text blocks lot = parts lot.kept ++ (joined (spilled blocks lot.run) ++ parts lot.last)
+-- the segments that a lot holds, those for reading too
+abbrev pub held : LotView → List Page
+held lot = held_stored (pages_of lot) ++ lent lot.feed
+
+-- the bytes that a lot stands for
+abbrev pub text : Blocks → LotView → List ℕ
+text blocks lot = text_stored blocks (pages_of lot)
+
+-- how many bytes are used of each of its pages, that under way the last
+abbrev pub sizes : Blocks → LotView → List ℕ
+sizes blocks lot = sizes_stored blocks (pages_of lot)
+
+-- These are the records of a lot, in order: its bytes are theirs, framed, and none touches more pages than its reach.
+pub record HoldsRows (blocks : Blocks) (lot : LotView) (rows : List (List ℕ)) : Type 0 where
+  pub bytes : text blocks lot ≡ frames rows
+  pub lengths : All (λ row. length row < 2 ^ 32) rows
+  pub reach : IsWithinReach lot.feed.reach (sizes blocks lot) rows
+
+-- It isn't being read: its feed holds nothing, and shows no record.
+abbrev pub IsAtRest : LotView → Type 0
+IsAtRest lot = lot.feed ≡ stopped lot.feed.room lot.feed.reach
+
+-- the lot that holds nothing, of which at most `room` full pages are kept in segments, and whose records touch at most
+-- `reach` pages each
+abbrev pub empty : (room reach : ℕ) → LotView
+empty room reach = record {
+  stored = record { room = room; kept = []; run = None; last = [] };
+  feed = stopped room reach;
+}
+
+-- It may be advanced: its feed was started, with all pages that stand in segments.
+pub record IsRewound (lot : LotView) : Type 0 where
+  pub started : IsStarted lot.feed
+  pub kept : lot.stored.kept ≡ []
+  pub last : lot.stored.last ≡ []
+
+-- By what the disk tells, these records are left to be read. Of a disk that doesn't tell none are known.
+abbrev pub IsLeft : LotView → Option Blocks → (rows : List (List ℕ)) → Type 0
+IsLeft lot None rows = ⊥
+IsLeft lot (Some blocks) rows = HasLeft blocks lot.feed rows
+
+-- Each block that is left to be read is one of the lot's run.
+abbrev pub ReadsOwn : Blocks → LotView → Type 0
+ReadsOwn blocks lot = (block : ℕ) → HasBlockLeft blocks lot.feed.run block → OwnsBlock blocks lot.stored.run block
 
 -- A lot stands on its disk, beside the segments of a purse: all segments have `size` bytes, and so have the spilled
--- pages, which stand as a run.
-pub record StandsWith (size : ℕ) (lot : Stored) (purse : List Page) (blocks : Blocks) : Type 0 where
+-- pages, which stand as a run, and it reads no others.
+pub record StandsWith (size : ℕ) (lot : LotView) (purse : List Page) (blocks : Blocks) : Type 0 where
   pub own : misfits size (held lot) ≡ 0
   pub others : misfits size purse ≡ 0
-  pub spilled : IsSpilled blocks size lot.run
+  pub spilled : IsSpilled blocks size lot.stored.run
+  pub reads : ReadsOwn blocks lot
 
 -- Where the disk tells, the lot stands on it, for some size of segments.
-abbrev pub IsSound : Option Blocks → Stored → (purse : List Page) → Type 0
+abbrev pub IsSound : Option Blocks → LotView → (purse : List Page) → Type 0
 IsSound told lot purse = IfTold told (λ blocks. (size : ℕ) × StandsWith size lot purse blocks)
 
--- What is true of every lot: its list of kept pages, of `len`, has space reserved for its room, and the list of the page
--- under way, of `count`, for one. Some bytes of that page are used, and no more than it has.
-pub record IsLot (last : List Page) (len capacity room count space : ℕ) : Type 0 where
-  pub fits : len ≤ room
-  pub reserved : room ≤ capacity
-  pub one : count ≤ 1
-  pub place : 1 ≤ space
-  pub some : 0 < count → 0 < used (page_at last 0)
-  pub within : used (page_at last 0) ≤ length (body (page_at last 0))
+-- What is true of every lot: its feed takes as many pages as it keeps. Where the feed has any of its pages, it has all
+-- that stand in segments. Some bytes of each are used, and of the page under way no more than it has.
+pub record IsLot (stored : Stored) (feed : Fed) : Type 0 where
+  pub room : feed.room ≡ stored.room
+  pub whole : 0 < length (kept_in feed) + length (last_in feed) → length stored.kept + length stored.last ≡ 0
+  pub fits : length (kept_in feed) ≤ stored.room
+  pub filled : All (λ page. 0 < length (part page)) (kept_in feed)
+  pub one : length (last_in feed) ≤ 1
+  pub some : 0 < length (last_in feed) → 0 < used (page_at (last_in feed) 0)
+  pub within : used (page_at (last_in feed) 0) ≤ length (body (page_at (last_in feed) 0))

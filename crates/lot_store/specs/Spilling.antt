@@ -1,5 +1,5 @@
 -- Pages of a lot that lie on a disk. The rules are this project's own.
-use Rattle.std.specs.Prelude.{◌≡◌, ◌≤◌, ℕ, List, [], ◌∷◌, ◌++◌, Option, Some, None, Result, IsErrOf, ⊤}
+use Rattle.std.specs.Prelude.{◌≡◌, ◌≤◌, ◌⊎◌, ℕ, List, [], ◌∷◌, ◌++◌, Option, Some, None, Result, IsErrOf, ⊤}
 use Rattle.flow_outside.specs.Blocks.{Blocks, IsLive}
 use Rattle.flow_outside.specs.Causes.{Rose}
 use Rattle.flow_outside.specs.declared.failure.StreamFault.{StreamFault}
@@ -29,17 +29,27 @@ abbrev pub LeavesOthers : (before after : Option RunWriter) → (old new : Block
 LeavesOthers before after old new =
     (block : ℕ) → IsLive old block → (OwnsBlock old before block → ⊥) → (new block ≡ old block) × (OwnsBlock new after block → ⊥)
 
+-- This block isn't live, or it is one of the run's.
+abbrev pub IsFreeOrOwn : Blocks → Option RunWriter → (block : ℕ) → Type 0
+IsFreeOrOwn blocks run block = (blocks block ≡ None) ⊎ OwnsBlock blocks run block
+
+-- No block became live that isn't the run's, and of those that were the run's each is so still or isn't live.
+abbrev pub OwnsWhatLives : (before after : Option RunWriter) → (old new : Blocks) → Type 0
+OwnsWhatLives before after old new = (block : ℕ) → IsFreeOrOwn old before block → IsFreeOrOwn new after block
+
 -- A page was spilled behind the others.
 pub record IsLonger (size : ℕ) (before after : Option RunWriter) (page : List ℕ) (old new : Blocks) : Type 0 where
   pub stands : IsSpilled new size after
   pub pages : spilled new after ≡ spilled old before ++ page ∷ []
   pub others : LeavesOthers before after old new
+  pub owns : OwnsWhatLives before after old new
 
 -- The spilled pages are what they were.
 pub record IsUnchanged (size : ℕ) (before after : Option RunWriter) (old new : Blocks) : Type 0 where
   pub stands : IsSpilled new size after
   pub pages : spilled new after ≡ spilled old before
   pub others : LeavesOthers before after old new
+  pub owns : OwnsWhatLives before after old new
 
 -- The count of faults never falls, a call that only writes answers `Spill` only where it rose, and never `Damaged`.
 pub record HasWriteCause {T : Type 0} (before now : ℕ) (answer : Result T StreamFault) : Type 0 where

@@ -1,24 +1,24 @@
 ghost use Rattle.std.specs.Prelude.{◌≡◌, ◌+◌, ◌^◌, ◌<◌, ◌≤◌, IfOk, OnOk, length, take};
 ghost use Rattle.flow_outside.specs.Blocks.{BothTold};
 ghost use Rattle.flow_types.specs.Records.{framed};
-ghost use Rattle.lot_store.specs.Keeping.{AddsText, Keeps, MovesSegments};
-ghost use Rattle.lot_store.specs.Lots.{IsSound, held};
+ghost use Rattle.lot_store.specs.Keeping.{AddsFullPages, AddsText, Keeps, MovesSegments};
+ghost use Rattle.lot_store.specs.Stores.{IsSound, held};
 ghost use Rattle.lot_store.specs.Spilling.{HasWriteCause};
 
-use crate::lot::Lot;
+use crate::stored::StoredPages;
 use flow_outside::failure::StreamFault;
 use flow_outside::spill::Spill;
 use flow_types::span::Span;
 use segment_core::Purse;
 
-impl Lot {
+impl StoredPages {
     /// Adds a record behind the others: its length and its bytes, which go on in the next page where a page
     /// ends. A page that is full is kept, where there is room for it, no page was spilled yet and the purse
     /// has another segment, and else it is spilled.
     ///
     /// `Spill` only where the disk's count of faults rose in this call; what the lot stands for is then open.
     /// It copies the record's bytes by pieces, and a page costs one write at most. It takes no memory.
-    pub fn append<X: Span, D: Spill>(
+    pub(crate) fn append<X: Span, D: Spill>(
         &mut self,
         row: &X,
         purse: &mut Purse,
@@ -31,6 +31,8 @@ impl Lot {
         ensures cause { HasWriteCause (D.fault_count disk.old) (D.fault_count disk.new) result }
         ensures added { OnOk result (BothTold (D.told disk.old) (D.told disk.new)
             (AddsText self.old self.new (framed (X.seen row.now)))) }
+        ensures full { OnOk result (BothTold (D.told disk.old) (D.told disk.new)
+            (AddsFullPages self.old self.new purse.old.pages)) }
         ensures keeps { BothTold (D.told disk.old) (D.told disk.new)
             (Keeps self.old self.new purse.old.pages purse.new.pages) }
         ensures sound { IsSound (D.told disk.new) self.new purse.new.pages }
@@ -38,7 +40,7 @@ impl Lot {
         ensures supply { OnOk result (0 < length purse.new.pages + length self.new.last) }
         ensures room { purse.new.room ≡ purse.old.room }
         ensures fits { length purse.new.pages + length (held self.new) ≤ purse.new.room }
-        ensures own { (self.new.room ≡ self.old.room) × (self.new.reach ≡ self.old.reach) }
+        ensures own { self.new.room ≡ self.old.room }
     {
         let len = row.len() as u32;
         match self.write(&len.to_be_bytes(), purse, disk) {
@@ -60,6 +62,8 @@ impl Lot {
         ensures cause { HasWriteCause (D.fault_count disk.old) (D.fault_count disk.new) result }
         ensures added { OnOk result (BothTold (D.told disk.old) (D.told disk.new)
             (AddsText self.old self.new (X.seen row.now))) }
+        ensures full { OnOk result (BothTold (D.told disk.old) (D.told disk.new)
+            (AddsFullPages self.old self.new purse.old.pages)) }
         ensures keeps { BothTold (D.told disk.old) (D.told disk.new)
             (Keeps self.old self.new purse.old.pages purse.new.pages) }
         ensures sound { IsSound (D.told disk.new) self.new purse.new.pages }
@@ -67,7 +71,7 @@ impl Lot {
         ensures supply { OnOk result (0 < length purse.new.pages + length self.new.last) }
         ensures room { purse.new.room ≡ purse.old.room }
         ensures fits { length purse.new.pages + length (held self.new) ≤ purse.new.room }
-        ensures own { (self.new.room ≡ self.old.room) × (self.new.reach ≡ self.old.reach) }
+        ensures own { self.new.room ≡ self.old.room }
     {
         let len = row.len();
         let mut at = 0;
@@ -94,6 +98,8 @@ impl Lot {
         ensures cause { HasWriteCause (D.fault_count disk.old) (D.fault_count disk.new) result }
         ensures added { OnOk result (BothTold (D.told disk.old) (D.told disk.new)
             (AddsText self.old self.new bytes.now)) }
+        ensures full { OnOk result (BothTold (D.told disk.old) (D.told disk.new)
+            (AddsFullPages self.old self.new purse.old.pages)) }
         ensures keeps { BothTold (D.told disk.old) (D.told disk.new)
             (Keeps self.old self.new purse.old.pages purse.new.pages) }
         ensures sound { IsSound (D.told disk.new) self.new purse.new.pages }
@@ -101,7 +107,7 @@ impl Lot {
         ensures supply { OnOk result (0 < length purse.new.pages + length self.new.last) }
         ensures room { purse.new.room ≡ purse.old.room }
         ensures fits { length purse.new.pages + length (held self.new) ≤ purse.new.room }
-        ensures own { (self.new.room ≡ self.old.room) × (self.new.reach ≡ self.old.reach) }
+        ensures own { self.new.room ≡ self.old.room }
     {
         let mut at = 0;
         'pieces: while at < bytes.len() {
@@ -129,6 +135,8 @@ impl Lot {
         ensures within { IfOk result (λ count. count ≤ length bytes.now) }
         ensures added { IfOk result (λ count. BothTold (D.told disk.old) (D.told disk.new)
             (AddsText self.old self.new (take count bytes.now))) }
+        ensures full { OnOk result (BothTold (D.told disk.old) (D.told disk.new)
+            (AddsFullPages self.old self.new purse.old.pages)) }
         ensures keeps { BothTold (D.told disk.old) (D.told disk.new)
             (Keeps self.old self.new purse.old.pages purse.new.pages) }
         ensures sound { IsSound (D.told disk.new) self.new purse.new.pages }
@@ -136,7 +144,7 @@ impl Lot {
         ensures supply { OnOk result (0 < length purse.new.pages + length self.new.last) }
         ensures room { purse.new.room ≡ purse.old.room }
         ensures fits { length purse.new.pages + length (held self.new) ≤ purse.new.room }
-        ensures own { (self.new.room ≡ self.old.room) × (self.new.reach ≡ self.old.reach) }
+        ensures own { self.new.room ≡ self.old.room }
     {
         match self.next_page(purse, disk) {
             Ok(page) => Ok(self.fill(page, bytes)),

@@ -1,23 +1,24 @@
 ghost use Rattle.std.specs.Prelude.{◌≡◌, ◌+◌, ◌<◌, ◌≤◌, [], ◌∷◌, ◌++◌, OnOk, length};
 ghost use Rattle.flow_outside.specs.Blocks.{BothTold};
-ghost use Rattle.lot_store.specs.Keeping.{AddsText, Keeps, MovesSegments};
-ghost use Rattle.lot_store.specs.Lots.{IsSound, held};
+ghost use Rattle.lot_store.specs.Keeping.{AddsPages, AddsText, Keeps, MovesSegments, PutsPage};
+ghost use Rattle.page_feed.specs.Reach.{sizes_of};
+ghost use Rattle.lot_store.specs.Stores.{IsSound, held};
 ghost use Rattle.lot_store.specs.Spilling.{HasWriteCause};
 ghost use Rattle.paged_view.specs.Pages.{body, part, used};
 
-use crate::lot::Lot;
 use crate::page::trim;
+use crate::stored::StoredPages;
 use flow_outside::failure::StreamFault;
 use flow_outside::spill::Spill;
 use segment_core::{Purse, Segment};
 
-impl Lot {
+impl StoredPages {
     /// Adds a page's used bytes behind the lot's: all that stand behind its header, where the header says more.
     /// It copies no byte of them. The page becomes the one under way, and the one that was is kept or spilled;
     /// a page of which no byte is used goes to the purse.
     ///
     /// `Spill` only where the disk's count of faults rose in this call; what the lot stands for is then open.
-    pub fn append_page<D: Spill>(
+    pub(crate) fn append_page<D: Spill>(
         &mut self,
         page: Segment,
         purse: &mut Purse,
@@ -28,12 +29,13 @@ impl Lot {
         ensures cause { HasWriteCause (D.fault_count disk.old) (D.fault_count disk.new) result }
         ensures added { OnOk result (BothTold (D.told disk.old) (D.told disk.new)
             (AddsText self.old self.new (part page))) }
+        ensures pages { OnOk result (BothTold (D.told disk.old) (D.told disk.new) (PutsPage page self.old self.new)) }
         ensures keeps { BothTold (D.told disk.old) (D.told disk.new)
             (Keeps self.old self.new (page ∷ purse.old.pages) purse.new.pages) }
         ensures sound { IsSound (D.told disk.new) self.new purse.new.pages }
         ensures segments { MovesSegments self.old self.new (page ∷ purse.old.pages) purse.new.pages }
         ensures room { purse.new.room ≡ purse.old.room }
-        ensures own { (self.new.room ≡ self.old.room) × (self.new.reach ≡ self.old.reach) }
+        ensures own { self.new.room ≡ self.old.room }
     {
         let mut page = page;
         if trim(&mut page) == 0 {
@@ -57,11 +59,14 @@ impl Lot {
         ensures cause { HasWriteCause (D.fault_count disk.old) (D.fault_count disk.new) result }
         ensures added { OnOk result (BothTold (D.told disk.old) (D.told disk.new)
             (AddsText self.old self.new (part page))) }
+        ensures pages { OnOk result (BothTold (D.told disk.old) (D.told disk.new)
+            (AddsPages self.old self.new (sizes_of self.old.last))) }
+        ensures last { OnOk result (self.new.last ≡ page ∷ []) }
         ensures keeps { BothTold (D.told disk.old) (D.told disk.new)
             (Keeps self.old self.new (page ∷ purse.old.pages) purse.new.pages) }
         ensures segments { MovesSegments self.old self.new (page ∷ purse.old.pages) purse.new.pages }
         ensures room { purse.new.room ≡ purse.old.room }
-        ensures own { (self.new.room ≡ self.old.room) × (self.new.reach ≡ self.old.reach) }
+        ensures own { self.new.room ≡ self.old.room }
     {
         match self.take_last() {
             Some(last) => self.push_behind(last, page, purse, disk),
@@ -90,11 +95,14 @@ impl Lot {
         ensures cause { HasWriteCause (D.fault_count disk.old) (D.fault_count disk.new) result }
         ensures added { OnOk result (BothTold (D.told disk.old) (D.told disk.new)
             (AddsText self.old self.new (part last ++ part page))) }
+        ensures pages { OnOk result (BothTold (D.told disk.old) (D.told disk.new)
+            (AddsPages self.old self.new (length (part last) ∷ []))) }
+        ensures last { OnOk result (self.new.last ≡ page ∷ []) }
         ensures keeps { BothTold (D.told disk.old) (D.told disk.new)
             (Keeps self.old self.new (page ∷ last ∷ purse.old.pages) purse.new.pages) }
         ensures segments { MovesSegments self.old self.new (page ∷ last ∷ purse.old.pages) purse.new.pages }
         ensures room { purse.new.room ≡ purse.old.room }
-        ensures own { (self.new.room ≡ self.old.room) × (self.new.reach ≡ self.old.reach) }
+        ensures own { self.new.room ≡ self.old.room }
     {
         match self.store(last, purse, disk) {
             Ok(()) => {

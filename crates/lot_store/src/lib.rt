@@ -5,11 +5,16 @@
 //! segment that went in stands in the lot or in the purse, whatever a call answers.
 #![tactic(auto)]
 
+mod adding;
 mod append;
 mod append_page;
+mod handing;
 pub mod laws;
+mod leaving;
 pub mod lot;
 mod page;
+mod reading;
 mod rest;
 mod spill;
 mod store;
+mod stored;

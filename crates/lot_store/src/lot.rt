@@ -1,202 +1,79 @@
-ghost use Rattle.std.specs.Prelude.{◌≡◌, ℕ, ◌+◌, ◌<◌, ◌≤◌, ◌↔◌, [], ◌∷◌, ◌++◌, None, IfOk, OnOk, OnErr, IfSome, IsTrue, length, option_to_list, vec_len, vec_capacity};
-ghost use Rattle.lot_store.specs.Keeping.{MovesSegments};
+ghost use Rattle.std.specs.Prelude.{◌≡◌, ℕ, ◌+◌, ◌≤◌, [], IfOk, length};
+ghost use Rattle.lot_store.specs.Lots.{IsAtRest, IsRewound, empty, held, pages_of};
+ghost use Rattle.lot_store.specs.Reads.{BeginsAt, HandsOver};
+ghost use Rattle.page_feed.specs.Feeds.{IsStarted, kept_in, last_in, lent, stopped};
 ghost use Rattle.segment_core.specs.Segments.{weigh};
-ghost use Rattle.flow_outside.specs.Blocks.{BothTold};
-ghost use Rattle.flow_outside.specs.Told.{IfTold};
-ghost use Rattle.lot_store.specs.Lots.{held};
-ghost use Rattle.lot_store.specs.Spilling.{HasWriteCause, IsLonger, IsSpilled, IsUnchanged};
-ghost use Rattle.paged_view.specs.Pages.{body, part, used};
-ghost use Rattle.spool.specs.Headers.{IsSameSegment};
 
-use crate::spill::spill;
-use flow_outside::failure::{Memory, StreamFault};
-use flow_outside::spill::Spill;
-use segment_core::{Purse, Segment};
-use spool::writer::RunWriter;
+use crate::stored::StoredPages;
+use flow_outside::failure::Memory;
+use page_feed::feed::Feed;
+use segment_core::Purse;
 use std::alloc::Global;
 use std::marker::Model;
 
 /// One worker's part of a dataset: pages of framed records, the first ones in segments and the others
-/// spilled. It may not be let go: `drop_lot` empties it, and `end` ends it.
+/// spilled. From a `rewind` on it is a stream of its records. It may not be let go: `drop_lot` empties it,
+/// and `end` ends it.
 pub struct Lot {
-    kept: Vec<Segment>,
-    room: u32,
-    reach: u32,
-    run: Option<RunWriter>,
-    last: Vec<Segment>,
+    pub(crate) stored: StoredPages,
+    pub(crate) feed: Feed,
 }
 
 impl Model for Lot {
-    ghost use Rattle.std.specs.Prelude.{vec_len, vec_capacity};
-    ghost use Rattle.lot_store.specs.Lots.{Stored, IsLot};
+    ghost use Rattle.lot_store.specs.Lots.{IsLot, LotView};
 
-    ghost Value = { Stored };
+    ghost Value = { LotView };
 
-    ghost view = { λ l. record {
-      room = l.room;
-      reach = l.reach;
-      kept = l.kept.items;
-      run = l.run;
-      last = l.last.items;
-    } };
+    ghost view = { λ l. record { stored = l.stored; feed = l.feed } };
 
-    ghost invariant = { λ l.
-        IsLot l.last.items (vec_len l.kept) (vec_capacity l.kept) l.room (vec_len l.last) (vec_capacity l.last) };
+    ghost invariant = { λ l. IsLot l.stored l.feed };
 }
 
 impl Lot {
     /// A lot that holds nothing. It keeps at most `room` full pages in segments, and a record of its
-    /// touches at most `reach` pages. It takes 32 bytes for each page that it may keep, and no call after
-    /// it takes memory.
+    /// touches at most `reach` pages. It takes memory for its lists of pages, and no call after it takes any.
     pub fn open(alloc: Global, room: u32, reach: u32) -> Result<Lot, Memory>
-        ensures { IfOk result (λ lot.
-            lot ≡ record { room = room; reach = reach; kept = []; run = None; last = [] }) }
+        ensures { IfOk result (λ lot. lot ≡ empty room reach) }
     {
-        let last = Vec::with_capacity(alloc, 1)?;
-        match Vec::with_capacity(alloc, room as usize) {
-            Ok(kept) => Ok(Lot {
-                kept,
-                room,
-                reach,
-                run: None,
-                last,
-            }),
-            Err(_) => {
-                last.destroy_empty();
+        let feed = Feed::open(alloc, room, reach)?;
+        match StoredPages::open(alloc, room) {
+            Ok(stored) => Ok(Lot { stored, feed }),
+            Err(Memory) => {
+                feed.end();
                 Err(Memory)
             }
         }
     }
 
-    /// Whether a page may be kept: none was spilled yet, there is room for it, and the purse has another segment.
-    pub(crate) fn may_keep(&self, purse: &Purse) -> bool
-        ensures none { IsTrue result → self.now.run ≡ None }
-        ensures fits { IsTrue result → length self.now.kept < self.now.room }
-        ensures supply { IsTrue result → 0 < length purse.now.pages }
-    {
-        self.run.is_none() && self.kept.len() < self.room as usize && purse.len() > 0
-    }
-
-    /// Keeps a page behind the others that are kept.
-    pub(crate) fn keep(&mut self, page: Segment)
-        requires { length self.old.kept < self.old.room }
-        ensures kept { self.new.kept ≡ self.old.kept ++ page ∷ [] }
-        ensures run { self.new.run ≡ self.old.run }
-        ensures last { self.new.last ≡ self.old.last }
-        ensures room { self.new.room ≡ self.old.room }
-        ensures reach { self.new.reach ≡ self.old.reach }
-    {
-        self.kept.push_reserved(page);
-    }
-
-    /// Spills a page behind those before it.
-    pub(crate) fn spill_page<D: Spill>(
-        &mut self,
-        page: &mut Segment,
-        disk: &mut D,
-    ) -> Result<(), StreamFault>
-        requires some { 0 < used page.old }
-        requires within { used page.old ≤ length (body page.old) }
-        requires stands { IfTold (D.told disk.old) (λ blocks. IsSpilled blocks (length page.old.bytes) self.old.run) }
-        ensures cause { HasWriteCause (D.fault_count disk.old) (D.fault_count disk.new) result }
-        ensures same { IsSameSegment page.old page.new }
-        ensures part { part page.new ≡ part page.old }
-        ensures longer { OnOk result (BothTold (D.told disk.old) (D.told disk.new)
-            (IsLonger (length page.old.bytes) self.old.run self.new.run page.new.bytes)) }
-        ensures refused { OnErr result (BothTold (D.told disk.old) (D.told disk.new)
-            (IsUnchanged (length page.old.bytes) self.old.run self.new.run)) }
-        ensures kept { self.new.kept ≡ self.old.kept }
-        ensures last { self.new.last ≡ self.old.last }
-        ensures own { (self.new.room ≡ self.old.room) × (self.new.reach ≡ self.old.reach) }
-    {
-        spill(&mut self.run, disk, page)
-    }
-
-    /// Whether it holds no more segments than its room.
-    pub(crate) fn fits_room(&self) -> bool
-        ensures { IsTrue result ↔ (length (held self.now) ≤ self.now.room) }
-    {
-        self.kept.len() + self.last.len() <= self.room as usize
-    }
-
-    /// Puts all of its segments into a purse.
-    pub(crate) fn give_all(&mut self, purse: &mut Purse)
-        requires { length purse.old.pages + length (held self.old) ≤ purse.old.room }
-        ensures empty { held self.new ≡ [] }
-        ensures run { self.new.run ≡ self.old.run }
-        ensures segments { MovesSegments self.old self.new purse.old.pages purse.new.pages }
+    /// Stops reading: its pages are to be written again, and the segments for reading go to the purse.
+    pub(crate) fn stop(&mut self, purse: &mut Purse)
+        requires { length purse.old.pages + length (lent self.old.feed) ≤ purse.old.room }
+        ensures stored { self.new.stored ≡ pages_of self.old }
+        ensures feed { self.new.feed ≡ stopped self.old.feed.room self.old.feed.reach }
         ensures room { purse.new.room ≡ purse.old.room }
-        ensures own { (self.new.room ≡ self.old.room) × (self.new.reach ≡ self.old.reach) }
+        ensures segments { (h : ℕ → ℕ → ℕ) → weigh h purse.new.pages ≡ weigh h purse.old.pages + weigh h (lent self.old.feed) }
     {
-        give(&mut self.kept, purse);
-        give(&mut self.last, purse);
+        self.stored.take_back(&mut self.feed, purse);
     }
 
-    /// Takes the run of its spilled pages out.
-    pub(crate) fn take_run(&mut self) -> Option<RunWriter>
-        ensures run { result ≡ self.old.run }
-        ensures none { self.new.run ≡ None }
-        ensures kept { self.new.kept ≡ self.old.kept }
-        ensures last { self.new.last ≡ self.old.last }
-        ensures own { (self.new.room ≡ self.old.room) × (self.new.reach ≡ self.old.reach) }
+    /// Begins to read, at the first page. It takes `reach` segments out of the purse.
+    pub(crate) fn begin(&mut self, purse: &mut Purse)
+        requires rest { IsAtRest self.old }
+        requires supply { self.old.feed.reach ≤ length purse.old.pages }
+        ensures begins { BeginsAt self.old self.new }
+        ensures started { IsStarted self.new.feed }
+        ensures room { purse.new.room ≡ purse.old.room }
+        ensures segments { (h : ℕ → ℕ → ℕ) → weigh h purse.new.pages + weigh h self.new.feed.blank ≡ weigh h purse.old.pages }
     {
-        self.run.take()
-    }
-
-    /// Takes the page under way out.
-    pub(crate) fn take_last(&mut self) -> Option<Segment>
-        ensures page { self.old.last ≡ option_to_list result }
-        ensures last { self.new.last ≡ [] }
-        ensures fits { length self.new.kept ≤ self.new.room }
-        ensures some { IfSome result (λ page. 0 < used page) }
-        ensures within { IfSome result (λ page. used page ≤ length (body page)) }
-        ensures kept { self.new.kept ≡ self.old.kept }
-        ensures run { self.new.run ≡ self.old.run }
-        ensures own { (self.new.room ≡ self.old.room) × (self.new.reach ≡ self.old.reach) }
-    {
-        self.last.pop()
-    }
-
-    /// Makes a page the one under way.
-    pub(crate) fn put_last(&mut self, page: Segment)
-        requires none { self.old.last ≡ [] }
-        requires some { 0 < used page }
-        requires within { used page ≤ length (body page) }
-        ensures last { self.new.last ≡ page ∷ [] }
-        ensures kept { self.new.kept ≡ self.old.kept }
-        ensures run { self.new.run ≡ self.old.run }
-        ensures own { (self.new.room ≡ self.old.room) × (self.new.reach ≡ self.old.reach) }
-    {
-        self.last.push_reserved(page);
+        self.stored.hand_over(&mut self.feed, purse);
     }
 
     /// Ends a lot that holds no segment.
     pub fn end(self)
         requires { held self ≡ [] }
     {
-        let Lot {
-            kept,
-            room: _,
-            reach: _,
-            run: _,
-            last,
-        } = self;
-        kept.destroy_empty();
-        last.destroy_empty();
-    }
-}
-
-// Puts segments into a purse, all of them.
-fn give(pages: &mut Vec<Segment>, purse: &mut Purse)
-    requires { length purse.old.pages + length pages.old.items ≤ purse.old.room }
-    ensures none { pages.new.items ≡ [] }
-    ensures len { vec_len pages.new ≡ 0 }
-    ensures capacity { vec_capacity pages.new ≡ vec_capacity pages.old }
-    ensures room { purse.new.room ≡ purse.old.room }
-    ensures segments { (h : ℕ → ℕ → ℕ) → weigh h purse.new.pages ≡ weigh h purse.old.pages + weigh h pages.old.items }
-    ensures count { length purse.new.pages ≡ length purse.old.pages + length pages.old.items }
-{
-    'pages: while let Some(page) = pages.pop() {
-        purse.put(page);
+        let Lot { stored, feed } = self;
+        stored.end();
+        feed.end();
     }
 }

@@ -2,29 +2,34 @@ ghost use Rattle.std.specs.Prelude.{◌≡◌, ℕ, ◌+◌, ◌<◌, ◌≤◌,
 ghost use Rattle.flow_outside.specs.Blocks.{BothTold};
 ghost use Rattle.flow_outside.specs.Causes.{HasStreamCause};
 ghost use Rattle.flow_outside.specs.Told.{IfTold};
-ghost use Rattle.lot_store.specs.Keeping.{AddsText, Keeps, MovesSegments};
-ghost use Rattle.lot_store.specs.Lots.{IsSound, held};
+ghost use Rattle.lot_store.specs.Keeping.{AddsText, Keeps, KeepsOthers, KeepsSizes, MovesSegments};
+ghost use Rattle.lot_store.specs.Stores.{IsSound, held};
 ghost use Rattle.lot_store.specs.Spilling.{FreesBlocks, HasWriteCause, StandsAlone};
 ghost use Rattle.segment_core.specs.Segments.{weigh};
 ghost use Rattle.spool.specs.Changes.{IsFreed, LeavesOthers as LeavesBut};
 
-use crate::lot::Lot;
+use crate::stored::StoredPages;
 use flow_outside::failure::StreamFault;
 use flow_outside::spill::Spill;
 use segment_core::Purse;
 use spool::discard::discard;
 use spool::run::Run;
 
-impl Lot {
+impl StoredPages {
     /// Leaves at most `room` segments in the lot, whatever it answers. It spills the page under way exactly
     /// where the lot holds more, with one write, and else does nothing.
     ///
     /// `Spill` only where the disk's count of faults rose in this call; what the lot stands for is then open.
-    pub fn rest<D: Spill>(&mut self, purse: &mut Purse, disk: &mut D) -> Result<(), StreamFault>
+    pub(crate) fn rest<D: Spill>(
+        &mut self,
+        purse: &mut Purse,
+        disk: &mut D,
+    ) -> Result<(), StreamFault>
         requires room { length purse.old.pages + length (held self.old) ≤ purse.old.room }
         requires sound { IsSound (D.told disk.old) self.old purse.old.pages }
         ensures cause { HasWriteCause (D.fault_count disk.old) (D.fault_count disk.new) result }
         ensures same { OnOk result (BothTold (D.told disk.old) (D.told disk.new) (AddsText self.old self.new [])) }
+        ensures sizes { OnOk result (BothTold (D.told disk.old) (D.told disk.new) (KeepsSizes self.old self.new)) }
         ensures rests { length (held self.new) ≤ self.new.room }
         ensures nothing { length (held self.old) ≤ self.old.room →
             (self.new ≡ self.old) × ((purse.new ≡ purse.old) × (D.told disk.new ≡ D.told disk.old)) }
@@ -34,7 +39,7 @@ impl Lot {
         ensures segments { MovesSegments self.old self.new purse.old.pages purse.new.pages }
         ensures room { purse.new.room ≡ purse.old.room }
         ensures fits { length purse.new.pages + length (held self.new) ≤ purse.new.room }
-        ensures own { (self.new.room ≡ self.old.room) × (self.new.reach ≡ self.old.reach) }
+        ensures own { self.new.room ≡ self.old.room }
     {
         if self.fits_room() {
             return Ok(());
@@ -50,7 +55,11 @@ impl Lot {
     ///
     /// `Spill` only where the disk's count of faults rose in this call, `Damaged` only over a disk that
     /// doesn't tell. The segments are then in the purse too, and each of the lot's blocks is free or as it was.
-    pub fn drop_lot<D: Spill>(&mut self, purse: &mut Purse, disk: &mut D) -> Result<(), StreamFault>
+    pub(crate) fn drop_lot<D: Spill>(
+        &mut self,
+        purse: &mut Purse,
+        disk: &mut D,
+    ) -> Result<(), StreamFault>
         requires supply { IsSome self.old.run → 0 < length purse.old.pages + length (held self.old) }
         requires room { length purse.old.pages + length (held self.old) ≤ purse.old.room }
         requires sound { IsSound (D.told disk.old) self.old purse.old.pages }
@@ -59,11 +68,11 @@ impl Lot {
         ensures none { self.new.run ≡ None }
         ensures freed { OnOk result (BothTold (D.told disk.old) (D.told disk.new) (FreesBlocks self.old.run)) }
         ensures keeps { BothTold (D.told disk.old) (D.told disk.new)
-            (Keeps self.old self.new purse.old.pages purse.new.pages) }
+            (KeepsOthers self.old self.new purse.old.pages purse.new.pages) }
         ensures sound { IsSound (D.told disk.new) self.new purse.new.pages }
         ensures segments { MovesSegments self.old self.new purse.old.pages purse.new.pages }
         ensures room { purse.new.room ≡ purse.old.room }
-        ensures own { (self.new.room ≡ self.old.room) × (self.new.reach ≡ self.old.reach) }
+        ensures own { self.new.room ≡ self.old.room }
     {
         self.give_all(purse);
         match self.take_run() {

@@ -1,19 +1,19 @@
 ghost use Rattle.std.specs.Prelude.{◌≡◌, ℕ, ◌+◌, ◌<◌, ◌≤◌, [], ◌∷◌, ◌++◌, IfOk, OnOk, length, take};
 ghost use Rattle.flow_outside.specs.Blocks.{BothTold};
-ghost use Rattle.lot_store.specs.Keeping.{AddsText, Keeps, MovesSegments, Trades, in_hand};
-ghost use Rattle.lot_store.specs.Lots.{IsSound, held};
+ghost use Rattle.lot_store.specs.Keeping.{AddsFullPages, AddsPages, AddsText, Keeps, MovesSegments, Trades, in_hand};
+ghost use Rattle.lot_store.specs.Stores.{IsSound, held};
 ghost use Rattle.lot_store.specs.Spilling.{HasWriteCause};
 ghost use Rattle.paged_view.specs.Pages.{body, part, parts, used};
 ghost use Rattle.segment_core.specs.Segments.{weigh};
 
-use crate::lot::Lot;
 use crate::page::{add_bytes, clear, has_space};
+use crate::stored::StoredPages;
 use flow_outside::failure::StreamFault;
 use flow_outside::spill::Spill;
 use paged_view::page::body_of;
 use segment_core::{Purse, Segment};
 
-impl Lot {
+impl StoredPages {
     /// Puts a page behind those before it: it is kept, where no page was spilled yet, there is room for it and
     /// the purse has another segment, and else it is spilled, and its segment goes to the purse.
     pub(crate) fn store<D: Spill>(
@@ -30,6 +30,8 @@ impl Lot {
         ensures cause { HasWriteCause (D.fault_count disk.old) (D.fault_count disk.new) result }
         ensures added { OnOk result (BothTold (D.told disk.old) (D.told disk.new)
             (AddsText self.old self.new (part page))) }
+        ensures pages { OnOk result (BothTold (D.told disk.old) (D.told disk.new)
+            (AddsPages self.old self.new (length (part page) ∷ []))) }
         ensures keeps { BothTold (D.told disk.old) (D.told disk.new)
             (Keeps self.old self.new (page ∷ purse.old.pages) purse.new.pages) }
         ensures sound { IsSound (D.told disk.new) self.new purse.new.pages }
@@ -37,7 +39,7 @@ impl Lot {
         ensures supply { OnOk result (0 < length purse.new.pages) }
         ensures last { self.new.last ≡ [] }
         ensures room { purse.new.room ≡ purse.old.room }
-        ensures own { (self.new.room ≡ self.old.room) × (self.new.reach ≡ self.old.reach) }
+        ensures own { self.new.room ≡ self.old.room }
     {
         if self.may_keep(purse) {
             self.keep(page);
@@ -61,6 +63,8 @@ impl Lot {
         ensures cause { HasWriteCause (D.fault_count disk.old) (D.fault_count disk.new) result }
         ensures added { OnOk result (BothTold (D.told disk.old) (D.told disk.new)
             (AddsText self.old self.new (part page))) }
+        ensures pages { OnOk result (BothTold (D.told disk.old) (D.told disk.new)
+            (AddsPages self.old self.new (length (part page) ∷ []))) }
         ensures keeps { BothTold (D.told disk.old) (D.told disk.new)
             (Keeps self.old self.new (page ∷ purse.old.pages) purse.new.pages) }
         ensures sound { IsSound (D.told disk.new) self.new purse.new.pages }
@@ -69,7 +73,7 @@ impl Lot {
         ensures last { self.new.last ≡ [] }
         ensures kept { self.new.kept ≡ self.old.kept }
         ensures room { purse.new.room ≡ purse.old.room }
-        ensures own { (self.new.room ≡ self.old.room) × (self.new.reach ≡ self.old.reach) }
+        ensures own { self.new.room ≡ self.old.room }
     {
         let mut page = page;
         let answer = self.spill_page(&mut page, disk);
@@ -91,12 +95,14 @@ impl Lot {
         ensures space { IfOk result (λ page. used page < length (body page)) }
         ensures trades { IfOk result (λ page. BothTold (D.told disk.old) (D.told disk.new)
             (Trades self.old self.new [] (part page))) }
+        ensures full { OnOk result (BothTold (D.told disk.old) (D.told disk.new)
+            (AddsFullPages self.old self.new purse.old.pages)) }
         ensures keeps { BothTold (D.told disk.old) (D.told disk.new)
             (Keeps self.old self.new purse.old.pages (in_hand result ++ purse.new.pages)) }
         ensures segments { MovesSegments self.old self.new purse.old.pages (in_hand result ++ purse.new.pages) }
         ensures last { self.new.last ≡ [] }
         ensures room { purse.new.room ≡ purse.old.room }
-        ensures own { (self.new.room ≡ self.old.room) × (self.new.reach ≡ self.old.reach) }
+        ensures own { self.new.room ≡ self.old.room }
     {
         match self.take_last() {
             Some(page) => self.go_on(page, purse, disk),
@@ -120,12 +126,14 @@ impl Lot {
         ensures space { IfOk result (λ next. used next < length (body next)) }
         ensures trades { IfOk result (λ next. BothTold (D.told disk.old) (D.told disk.new)
             (Trades self.old self.new (part page) (part next))) }
+        ensures full { OnOk result (BothTold (D.told disk.old) (D.told disk.new)
+            (AddsFullPages self.old self.new (page ∷ purse.old.pages))) }
         ensures keeps { BothTold (D.told disk.old) (D.told disk.new)
             (Keeps self.old self.new (page ∷ purse.old.pages) (in_hand result ++ purse.new.pages)) }
         ensures segments { MovesSegments self.old self.new (page ∷ purse.old.pages) (in_hand result ++ purse.new.pages) }
         ensures last { self.new.last ≡ [] }
         ensures room { purse.new.room ≡ purse.old.room }
-        ensures own { (self.new.room ≡ self.old.room) × (self.new.reach ≡ self.old.reach) }
+        ensures own { self.new.room ≡ self.old.room }
     {
         if has_space(&page) {
             return Ok(page);
@@ -149,7 +157,7 @@ impl Lot {
         ensures run { self.new.run ≡ self.old.run }
         ensures segments { (h : ℕ → ℕ → ℕ) →
             weigh h (held self.new) ≡ weigh h (held self.old) + weigh h (page ∷ []) }
-        ensures own { (self.new.room ≡ self.old.room) × (self.new.reach ≡ self.old.reach) }
+        ensures own { self.new.room ≡ self.old.room }
     {
         let mut page = page;
         let count = add_bytes(&mut page, bytes);

@@ -1,7 +1,7 @@
 -- Lemmas on a reader's place.
 use Rattle.std.proofs.Common.{◌≡◌, ℕ, ◌+◌, ◌-◌, ◌<◌, ◌≤◌, true, false, List, [], ◌∷◌, ◌++◌, length, take, drop, get_or, sym, ap, ◌∙◌, arith, append-nil, length-append, take-append-drop, zero, suc, inl, inr, ◌==◌}
 use Rattle.std.specs.Bool.{IsTrue}
-use Rattle.std.proofs.lemmas.List.{length-drop, take_rest, drop-append-le, drop-drop, drop_more, get_or_default, get_or_past, get_or-drop}
+use Rattle.std.proofs.lemmas.List.{length-drop, take_rest, drop-append-le, drop-drop, drop_more, get_or_default, get_or_past, get_or-drop, drop_all}
 use Rattle.std.proofs.lemmas.Grind.{flat_map-append}
 use Rattle.std.proofs.lemmas.List.Folds.{length-flat_map-take}
 use Rattle.std.proofs.lemmas.Bool.{cases_lt}
@@ -113,3 +113,15 @@ moved_is room page off pending page1 off1 page2 off2 len ps w is start behind si
 pub reaches_end : (left all off need n : ℕ) → left + all ≡ off + need → off ≤ all → n ≡ all - off → (IsTrue (left == 0) → need ≤ n) × (need ≤ n → IsTrue (left == 0))
 reaches_end left all off need n passed within is =
     (λ yes. grind (arith, nat_tests), λ fits. grind (arith, nat_tests))
+
+-- all bytes were read exactly where the place is behind the last page
+pub read_out : (room page off pending page' off' len : ℕ) (ps : List Page) (w : Reading) → View room ps page off pending ≡ w → unread ps page' off' ≡ unread ps page (off + pending) → page' ≤ len → (page' < len → off' < length (part (page_at ps page'))) → len ≡ length ps → (IsTrue (page' == len) → w.text ≡ []) × (w.text ≡ [] → IsTrue (page' == len))
+read_out room page off pending page' off' len ps w is same among byte long =
+    let text : unread ps page' off' ≡ w.text = same ∙ ap (λ (v : Reading). v.text) is in (
+      λ yes. let at : page' ≡ len = grind (arith, nat_tests) in
+          sym text ∙ ap (λ qs. drop off' (parts qs)) (drop_all page' ps (omega (arith, at, long))) ∙ drop_all {X = ℕ} off' [] (omega arith),
+      λ none. elim (cases_lt page' len) [
+        | inl below ↦ absurd (omega (arith, byte below, ap length (text ∙ none), length-unread ps page' off', ap length (parts-drop ps page' (omega (arith, below, long))), length-append (part (page_at ps page')) (parts (drop (page' + 1) ps))))
+        | inr past ↦ grind (arith, nat_tests)
+      ],
+    )

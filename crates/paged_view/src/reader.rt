@@ -1,4 +1,4 @@
-ghost use Rattle.std.specs.Prelude.{◌≡◌, ℕ, ◌+◌, ◌-◌, ◌^◌, ◌<◌, ◌≤◌, ◌↔◌, [], ◌∷◌, ◌++◌, length, take, drop, vec_len, vec_capacity, IsTrue, IsOk, IfOk, OnOk, OnErr, OnSome, IfSome, IfNone, MatchOption, is_some, option_to_list};
+ghost use Rattle.std.specs.Prelude.{◌≡◌, ℕ, ◌+◌, ◌-◌, ◌^◌, ◌<◌, ◌≤◌, ◌↔◌, [], ◌∷◌, ◌++◌, length, take, drop, vec_len, vec_capacity, IsTrue, IsSome, IsOk, IfOk, OnOk, OnErr, OnSome, IfSome, IfNone, MatchOption, is_some, option_to_list};
 ghost use Rattle.std.specs.Borrow.{sem};
 ghost use Rattle.segment_core.specs.Segments.{weigh};
 ghost use Rattle.paged_view.specs.Pages.{part, parts, page_at};
@@ -88,12 +88,32 @@ impl PageReader {
         ensures need { IsOk result ↔ HasRecord self.old.text }
         ensures row { IfOk result (λ r. seen_in r ≡ first_record self.old.text) }
     {
-        self.step()?;
+        self.advance()?;
         Ok(self.head())
     }
 
-    /// The record that `next` gave last, until `next` or `spent` answers the next time, and else an empty
-    /// one.
+    /// Moves past the next record, which is then the head.
+    ///
+    /// `NeedPage` exactly where the unread bytes don't begin with a whole framed record: then nothing
+    /// changes. It reads the record's length alone.
+    pub fn advance(&mut self) -> Result<(), NeedPage>
+        ensures need { IsOk result ↔ HasRecord self.old.text }
+        ensures ok { OnOk result (self.new ≡ moved self.old) }
+        ensures err { OnErr result (self.new ≡ self.old) }
+    {
+        let start = place_at(&self.pages, self.page, self.off + self.pending);
+        let Some(len) = whole_len(&self.pages, start) else {
+            return Err(NeedPage);
+        };
+        let place = place_at(&self.pages, start.page, start.off + 4);
+        self.page = place.page;
+        self.off = place.off;
+        self.pending = len;
+        Ok(())
+    }
+
+    /// The record that `next` or `advance` moved past last, until `next`, `advance`, `spent` or `withdraw`
+    /// answers the next time, and else an empty one.
     pub fn head(&self) -> RecordRef<'_>
         ensures { seen_in result ≡ self.now.head }
     {
@@ -107,8 +127,8 @@ impl PageReader {
         )
     }
 
-    /// Takes the oldest page out of which all bytes were read, those of the record that `next` gave last
-    /// too: `None` exactly where there is none. It moves the pages behind it.
+    /// Takes the oldest page out of which all bytes were read, those of the record that was moved past
+    /// last too: `None` exactly where there is none. It moves the pages behind it.
     pub fn spent(&mut self) -> Option<Segment>
         ensures some { is_some result ≡ has_spent self.old.text self.old.pages }
         ensures none { IfNone result (self.new ≡ self.old) }
@@ -130,6 +150,41 @@ impl PageReader {
         Some(self.pages.remove(0))
     }
 
+    /// Takes the oldest page, whether it was read or not: `None` exactly where there is none. Reading
+    /// begins anew, with the first byte of the pages that are left. It moves these.
+    pub fn withdraw(&mut self) -> Option<Segment>
+        ensures some { IsSome result ↔ (0 < length self.old.pages) }
+        ensures pages { self.old.pages ≡ option_to_list result ++ self.new.pages }
+        ensures text { self.new.text ≡ parts self.new.pages }
+        ensures head { self.new.head ≡ [] }
+        ensures room { self.new.room ≡ self.old.room }
+        ensures segments { (h : ℕ → ℕ → ℕ) →
+            weigh h self.new.pages + weigh h (option_to_list result) ≡ weigh h self.old.pages }
+    {
+        self.page = 0;
+        self.off = 0;
+        self.pending = 0;
+        if self.pages.is_empty() {
+            return None;
+        }
+        Some(self.pages.remove(0))
+    }
+
+    /// How many pages it holds.
+    pub fn len(&self) -> usize
+        ensures { result ≡ length self.now.pages }
+    {
+        self.pages.len()
+    }
+
+    /// Whether all bytes of its pages were read.
+    pub fn is_read_out(&self) -> bool
+        ensures { IsTrue result ↔ (self.now.text ≡ []) }
+    {
+        let end = place_at(&self.pages, self.page, self.off + self.pending);
+        end.page == self.pages.len()
+    }
+
     /// Takes the reader apart: all of its segments, in a purse of its room.
     pub fn end(self) -> Purse
         ensures { result ≡ record { room = self.room; pages = self.pages } }
@@ -142,23 +197,6 @@ impl PageReader {
             pending: _,
         } = self;
         Purse::of_items(pages, room)
-    }
-
-    // Moves past the next record, which is then the head.
-    fn step(&mut self) -> Result<(), NeedPage>
-        ensures need { IsOk result ↔ HasRecord self.old.text }
-        ensures ok { OnOk result (self.new ≡ moved self.old) }
-        ensures err { OnErr result (self.new ≡ self.old) }
-    {
-        let start = place_at(&self.pages, self.page, self.off + self.pending);
-        let Some(len) = whole_len(&self.pages, start) else {
-            return Err(NeedPage);
-        };
-        let place = place_at(&self.pages, start.page, start.off + 4);
-        self.page = place.page;
-        self.off = place.off;
-        self.pending = len;
-        Ok(())
     }
 }
 

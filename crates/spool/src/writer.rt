@@ -73,6 +73,16 @@ impl RunWriter {
         Ok(())
     }
 
+    /// The run of the pages that were pushed so far, to which later ones don't belong.
+    pub fn run(&self) -> Run
+        ensures { result ≡ record { first = self.now.first; pages = self.now.pages } }
+    {
+        Run {
+            first: self.first,
+            pages: self.pages,
+        }
+    }
+
     /// The run of the pages that were pushed.
     pub fn close(self) -> Run
         ensures { result ≡ record { first = self.first; pages = self.pages } }

@@ -8,7 +8,7 @@ push-requires-clause-live g c = end_lives_told _ (length c.args.page.now.bytes) 
 
 pub returns-in-Ok-clause-longer : goal.returns-in-Ok-clause-longer
 returns-in-Ok-clause-longer g c =
-    longer_told _ _ _ c.args.writer c.push.new.self c.push.new.page.bytes c.requires.stands c.in-Ok.ensures.appended c.in-Ok.ensures.pushed
+    longer_told _ _ _ c.args.writer c.push.new.self c.push.new.page.bytes c.in-Ok.ensures.counted c.requires.stands c.in-Ok.ensures.appended c.in-Ok.ensures.pushed
 
 pub returns-in-Err-clause-refused : goal.returns-in-Err-clause-refused
 returns-in-Err-clause-refused g c =

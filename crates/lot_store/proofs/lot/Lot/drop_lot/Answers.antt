@@ -1,34 +1,20 @@
-use Rattle.std.proofs.Common.{◌∙◌, refl, sym, ap, is_some}
-use Rattle.lot_store.proofs.LotLemmas.{keeps_same_told, sound_on}
-use Rattle.lot_store.proofs.StepLemmas.{keeps_ended, moves_ended, stands_alone, supply_on}
+use Rattle.std.proofs.Common.{ap, ◌∙◌}
+use Rattle.lot_store.specs.Lots.{LotView}
+use Rattle.lot_store.proofs.RestLemmas.{back_fits, lot_keeps_others, lot_of, sound_in, supply_end}
 use Rattle.lot_store.proofs.lot.Lot.drop_lot.Goals as goal
 
-pub end_run-requires-clause-supply : goal.end_run-requires-clause-supply
-end_run-requires-clause-supply g c =
-    supply_on c.args.self.now c.give_all.new.self c.args.purse.now.pages c.give_all.new.purse.pages c.give_all.ensures.segments c.give_all.ensures.empty
-    (c.requires.supply (ap is_some (sym (c.in-Some.ensures.run ∙ c.give_all.ensures.run))))
+pub drop_lot-requires-clause-supply : goal.drop_lot-requires-clause-supply
+drop_lot-requires-clause-supply g c =
+    supply_end c.args.self.now c.self.inside.stored c.args.purse.now.pages c.stop.new.purse.pages (ap (λ (v : LotView). v.stored) c.self.view_is ∙ c.stop.ensures.stored) c.stop.ensures.segments c.requires.supply
 
-pub end_run-requires-clause-stands : goal.end_run-requires-clause-stands
-end_run-requires-clause-stands g c =
-    stands_alone _ c.args.self.now c.give_all.new.self c.args.purse.now.pages c.give_all.new.purse.pages c.in-Some.writer c.close.result c.requires.sound c.give_all.ensures.segments
-    (sym (c.in-Some.ensures.run ∙ c.give_all.ensures.run)) c.close.ensures
+pub drop_lot-requires-clause-room : goal.drop_lot-requires-clause-room
+drop_lot-requires-clause-room g c =
+    back_fits c.args.self.now c.self.inside.stored c.args.purse.now.pages c.stop.new.purse.pages c.args.purse.now.room c.stop.new.purse.room (ap (λ (v : LotView). v.stored) c.self.view_is ∙ c.stop.ensures.stored) c.stop.ensures.segments c.stop.ensures.room c.requires.room
 
-pub returns-in-Some-clause-keeps : goal.returns-in-Some-clause-keeps
-returns-in-Some-clause-keeps g c =
-    keeps_ended _ _ c.args.self.now c.take_run.new.self c.args.purse.now.pages c.end_run.new.purse.pages c.in-Some.writer c.close.result
-    (moves_ended c.args.self.now c.give_all.new.self c.take_run.new.self c.args.purse.now.pages c.give_all.new.purse.pages c.end_run.new.purse.pages c.give_all.ensures.segments c.take_run.ensures.kept c.take_run.ensures.last c.end_run.ensures.segments)
-    (sym (c.in-Some.ensures.run ∙ c.give_all.ensures.run)) c.take_run.ensures.none c.close.ensures c.end_run.ensures.others
+pub drop_lot-requires-clause-sound : goal.drop_lot-requires-clause-sound
+drop_lot-requires-clause-sound g c =
+    sound_in _ c.args.self.now c.self.inside.stored c.args.purse.now.pages c.stop.new.purse.pages (ap (λ (v : LotView). v.stored) c.self.view_is ∙ c.stop.ensures.stored) c.stop.ensures.segments c.requires.sound
 
-pub returns-in-Some-clause-sound : goal.returns-in-Some-clause-sound
-returns-in-Some-clause-sound g c =
-    sound_on _ _ c.args.self.now c.take_run.new.self c.args.purse.now.pages c.end_run.new.purse.pages c.requires.sound (returns-in-Some-clause-keeps g c)
-
-pub returns-in-None-clause-keeps : goal.returns-in-None-clause-keeps
-returns-in-None-clause-keeps g c =
-    keeps_same_told _ c.args.self.now c.take_run.new.self c.args.purse.now.pages c.give_all.new.purse.pages
-    (moves_ended c.args.self.now c.give_all.new.self c.take_run.new.self c.args.purse.now.pages c.give_all.new.purse.pages c.give_all.new.purse.pages c.give_all.ensures.segments c.take_run.ensures.kept c.take_run.ensures.last (λ h. refl))
-    (c.take_run.ensures.none ∙ c.in-None.ensures.run ∙ c.give_all.ensures.run)
-
-pub returns-in-None-clause-sound : goal.returns-in-None-clause-sound
-returns-in-None-clause-sound g c =
-    sound_on _ _ c.args.self.now c.take_run.new.self c.args.purse.now.pages c.give_all.new.purse.pages c.requires.sound (returns-in-None-clause-keeps g c)
+pub returns-clause-keeps : goal.returns-clause-keeps
+returns-clause-keeps g c =
+    lot_keeps_others _ _ c.args.self.now (lot_of c.drop_lot.new.self c.self.inside.feed) c.self.inside.stored c.args.purse.now.pages c.stop.new.purse.pages c.drop_lot.new.purse.pages _ _ (ap (λ (v : LotView). v.stored) c.self.view_is ∙ c.stop.ensures.stored) (ap (λ (v : LotView). v.feed) c.self.view_is ∙ c.stop.ensures.feed) c.stop.ensures.segments c.drop_lot.ensures.keeps

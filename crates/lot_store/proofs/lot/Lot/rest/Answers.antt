@@ -1,30 +1,16 @@
-use Rattle.std.proofs.Common.{◌+◌, ◌≤◌, ◌∷◌, length, sym, subst}
-use Rattle.lot_store.specs.Lots.{held}
-use Rattle.lot_store.proofs.LotLemmas.{keeps_same_told, sound_on}
-use Rattle.lot_store.proofs.StepLemmas.{adds_rested, fits_on, keeps_told, moves_join, moves_taken}
+use Rattle.std.proofs.Common.{ap, ◌∙◌}
+use Rattle.lot_store.specs.Lots.{LotView}
+use Rattle.lot_store.proofs.RestLemmas.{back_fits, lot_keeps, lot_of, sound_in}
 use Rattle.lot_store.proofs.lot.Lot.rest.Goals as goal
 
-pub spill_out-requires-clause-sound : goal.spill_out-requires-clause-sound
-spill_out-requires-clause-sound g c =
-    sound_on _ _ c.args.self.now c.take_last.new.self c.args.purse.now.pages (c.in-Some.page ∷ c.args.purse.now.pages) c.requires.sound
-    (keeps_same_told _ c.args.self.now c.take_last.new.self c.args.purse.now.pages (c.in-Some.page ∷ c.args.purse.now.pages)
-    (moves_taken c.args.self.now c.take_last.new.self c.in-Some.page c.args.purse.now.pages c.in-Some.ensures.page c.take_last.ensures.last c.take_last.ensures.kept) c.take_last.ensures.run)
+pub rest-requires-clause-room : goal.rest-requires-clause-room
+rest-requires-clause-room g c =
+    back_fits c.args.self.now c.self.inside.stored c.args.purse.now.pages c.stop.new.purse.pages c.args.purse.now.room c.stop.new.purse.room (ap (λ (v : LotView). v.stored) c.self.view_is ∙ c.stop.ensures.stored) c.stop.ensures.segments c.stop.ensures.room c.requires.room
 
-pub returns-clause-same : goal.returns-clause-same
-returns-clause-same g c =
-    adds_rested c.spill_out.result _ _ c.args.self.now c.take_last.new.self c.spill_out.new.self c.in-Some.page c.in-Some.ensures.page c.take_last.ensures.last c.take_last.ensures.kept c.take_last.ensures.run c.spill_out.ensures.added
+pub rest-requires-clause-sound : goal.rest-requires-clause-sound
+rest-requires-clause-sound g c =
+    sound_in _ c.args.self.now c.self.inside.stored c.args.purse.now.pages c.stop.new.purse.pages (ap (λ (v : LotView). v.stored) c.self.view_is ∙ c.stop.ensures.stored) c.stop.ensures.segments c.requires.sound
 
 pub returns-clause-keeps : goal.returns-clause-keeps
 returns-clause-keeps g c =
-    keeps_told _ _ _ c.args.self.now c.take_last.new.self c.spill_out.new.self c.args.purse.now.pages (c.in-Some.page ∷ c.args.purse.now.pages) c.spill_out.new.purse.pages
-    (keeps_same_told _ c.args.self.now c.take_last.new.self c.args.purse.now.pages (c.in-Some.page ∷ c.args.purse.now.pages)
-    (moves_taken c.args.self.now c.take_last.new.self c.in-Some.page c.args.purse.now.pages c.in-Some.ensures.page c.take_last.ensures.last c.take_last.ensures.kept) c.take_last.ensures.run)
-    c.spill_out.ensures.keeps
-
-pub returns-clause-fits : goal.returns-clause-fits
-returns-clause-fits g c =
-    subst (λ r. length c.spill_out.new.purse.pages + length (held c.spill_out.new.self) ≤ r) (sym c.spill_out.ensures.room)
-    (fits_on c.args.self.now c.spill_out.new.self c.args.purse.now.pages c.spill_out.new.purse.pages c.args.purse.now.room
-    (moves_join c.args.self.now c.take_last.new.self c.spill_out.new.self c.args.purse.now.pages (c.in-Some.page ∷ c.args.purse.now.pages) c.spill_out.new.purse.pages
-    (moves_taken c.args.self.now c.take_last.new.self c.in-Some.page c.args.purse.now.pages c.in-Some.ensures.page c.take_last.ensures.last c.take_last.ensures.kept)
-    c.spill_out.ensures.segments) c.requires.room)
+    lot_keeps _ _ c.args.self.now (lot_of c.rest.new.self c.self.inside.feed) c.self.inside.stored c.args.purse.now.pages c.stop.new.purse.pages c.rest.new.purse.pages _ _ (ap (λ (v : LotView). v.stored) c.self.view_is ∙ c.stop.ensures.stored) (ap (λ (v : LotView). v.feed) c.self.view_is ∙ c.stop.ensures.feed) c.stop.ensures.segments c.rest.ensures.keeps

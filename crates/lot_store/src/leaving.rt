@@ -1,0 +1,66 @@
+ghost use Rattle.std.specs.Prelude.{◌≡◌, ◌+◌, ◌<◌, ◌≤◌, [], None, OnOk, IsSome, length};
+ghost use Rattle.flow_outside.specs.Blocks.{BothTold};
+ghost use Rattle.flow_outside.specs.Causes.{HasStreamCause};
+ghost use Rattle.lot_store.specs.LotKeeping.{AddsText, Keeps, KeepsOthers, KeepsRows, MovesSegments};
+ghost use Rattle.lot_store.specs.Lots.{IsSound, held, pages_of};
+ghost use Rattle.lot_store.specs.Spilling.{FreesBlocks, HasWriteCause};
+ghost use Rattle.page_feed.specs.Feeds.{lent, stopped};
+
+use crate::lot::Lot;
+use flow_outside::failure::StreamFault;
+use flow_outside::spill::Spill;
+use segment_core::Purse;
+
+impl Lot {
+    /// Stops reading, and leaves at most `room` segments in the lot, whatever it answers: the segments for
+    /// reading go to the purse, and the page under way is spilled exactly where the lot then still holds more,
+    /// with one write.
+    ///
+    /// `Spill` only where the disk's count of faults rose in this call; what the lot stands for is then open.
+    pub fn rest<D: Spill>(&mut self, purse: &mut Purse, disk: &mut D) -> Result<(), StreamFault>
+        requires room { length purse.old.pages + length (held self.old) ≤ purse.old.room }
+        requires sound { IsSound (D.told disk.old) self.old purse.old.pages }
+        ensures cause { HasWriteCause (D.fault_count disk.old) (D.fault_count disk.new) result }
+        ensures same { OnOk result (BothTold (D.told disk.old) (D.told disk.new) (AddsText self.old self.new [])) }
+        ensures rows { OnOk result (BothTold (D.told disk.old) (D.told disk.new) (KeepsRows self.old self.new)) }
+        ensures rests { length (held self.new) ≤ self.new.stored.room }
+        ensures nothing { length (held self.old) ≤ self.old.stored.room + length (lent self.old.feed) →
+            (pages_of self.new ≡ pages_of self.old) × (D.told disk.new ≡ D.told disk.old) }
+        ensures keeps { BothTold (D.told disk.old) (D.told disk.new)
+            (Keeps self.old self.new purse.old.pages purse.new.pages) }
+        ensures sound { IsSound (D.told disk.new) self.new purse.new.pages }
+        ensures segments { MovesSegments self.old self.new purse.old.pages purse.new.pages }
+        ensures room { purse.new.room ≡ purse.old.room }
+        ensures fits { length purse.new.pages + length (held self.new) ≤ purse.new.room }
+        ensures own { self.new.stored.room ≡ self.old.stored.room }
+        ensures rest { self.new.feed ≡ stopped self.old.feed.room self.old.feed.reach }
+    {
+        self.stop(purse);
+        self.stored.rest(purse, disk)
+    }
+
+    /// Empties the lot: its segments go to the purse, and the blocks of its spilled pages end. It reads each
+    /// spilled page once.
+    ///
+    /// `Spill` only where the disk's count of faults rose in this call, `Damaged` only over a disk that
+    /// doesn't tell. The segments are then in the purse too, and each of the lot's blocks is free or as it was.
+    pub fn drop_lot<D: Spill>(&mut self, purse: &mut Purse, disk: &mut D) -> Result<(), StreamFault>
+        requires supply { IsSome self.old.stored.run → 0 < length purse.old.pages + length (held self.old) }
+        requires room { length purse.old.pages + length (held self.old) ≤ purse.old.room }
+        requires sound { IsSound (D.told disk.old) self.old purse.old.pages }
+        ensures cause { HasStreamCause (D.fault_count disk.old) (D.fault_count disk.new) (D.told disk.old) result }
+        ensures empty { held self.new ≡ [] }
+        ensures none { self.new.stored.run ≡ None }
+        ensures freed { OnOk result (BothTold (D.told disk.old) (D.told disk.new) (FreesBlocks self.old.stored.run)) }
+        ensures keeps { BothTold (D.told disk.old) (D.told disk.new)
+            (KeepsOthers self.old self.new purse.old.pages purse.new.pages) }
+        ensures sound { IsSound (D.told disk.new) self.new purse.new.pages }
+        ensures segments { MovesSegments self.old self.new purse.old.pages purse.new.pages }
+        ensures room { purse.new.room ≡ purse.old.room }
+        ensures own { self.new.stored.room ≡ self.old.stored.room }
+        ensures rest { self.new.feed ≡ stopped self.old.feed.room self.old.feed.reach }
+    {
+        self.stop(purse);
+        self.stored.drop_lot(purse, disk)
+    }
+}

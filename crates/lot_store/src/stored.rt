@@ -1,0 +1,248 @@
+ghost use Rattle.std.specs.Prelude.{◌≡◌, All, ℕ, ◌+◌, ◌<◌, ◌≤◌, ◌↔◌, [], ◌∷◌, ◌++◌, None, IfOk, OnOk, OnErr, IfSome, IsTrue, length, option_to_list, vec_len, vec_capacity};
+ghost use Rattle.lot_store.specs.Keeping.{MovesSegments};
+ghost use Rattle.segment_core.specs.Segments.{weigh};
+ghost use Rattle.flow_outside.specs.Blocks.{BothTold};
+ghost use Rattle.flow_outside.specs.Told.{IfTold};
+ghost use Rattle.lot_store.specs.Stores.{ArePages, held};
+ghost use Rattle.lot_store.specs.Spilling.{HasWriteCause, IsLonger, IsSpilled, IsUnchanged};
+ghost use Rattle.lot_store.specs.Reads.{HandsOver};
+ghost use Rattle.page_feed.specs.Feeds.{IsStarted, kept_in, last_in, lent, stopped};
+ghost use Rattle.paged_view.specs.Pages.{body, page_at, part, used};
+ghost use Rattle.spool.specs.Headers.{IsSameSegment};
+
+use crate::handing::{give_pages, reader_of, take_pages};
+use crate::spill::spill;
+use flow_outside::failure::{Memory, StreamFault};
+use flow_outside::spill::Spill;
+use page_feed::feed::Feed;
+use segment_core::{Purse, Segment};
+use spool::writer::RunWriter;
+use std::alloc::Global;
+use std::marker::Model;
+
+/// The pages of a lot while it is written: the first ones in segments, the others spilled, and the page
+/// under way behind them. It may not be let go: `drop_lot` empties it, and `end` ends it.
+pub(crate) struct StoredPages {
+    kept: Vec<Segment>,
+    room: u32,
+    run: Option<RunWriter>,
+    last: Vec<Segment>,
+}
+
+impl Model for StoredPages {
+    ghost use Rattle.std.specs.Prelude.{vec_len, vec_capacity};
+    ghost use Rattle.lot_store.specs.Stores.{Stored, IsStore};
+
+    ghost Value = { Stored };
+
+    ghost view = { λ l. record {
+      room = l.room;
+      kept = l.kept.items;
+      run = l.run;
+      last = l.last.items;
+    } };
+
+    ghost invariant = { λ l.
+        IsStore l.kept.items l.last.items (vec_len l.kept) (vec_capacity l.kept) l.room (vec_len l.last) (vec_capacity l.last) };
+}
+
+impl StoredPages {
+    /// No pages, of which at most `room` full ones are kept in segments. It takes 32 bytes for each page that
+    /// may be kept, and no call after it takes memory.
+    pub(crate) fn open(alloc: Global, room: u32) -> Result<StoredPages, Memory>
+        ensures { IfOk result (λ lot. lot ≡ record { room = room; kept = []; run = None; last = [] }) }
+    {
+        let last = Vec::with_capacity(alloc, 1)?;
+        match Vec::with_capacity(alloc, room as usize) {
+            Ok(kept) => Ok(StoredPages {
+                kept,
+                room,
+                run: None,
+                last,
+            }),
+            Err(_) => {
+                last.destroy_empty();
+                Err(Memory)
+            }
+        }
+    }
+
+    /// Whether a page may be kept: none was spilled yet, there is room for it, and the purse has another segment.
+    pub(crate) fn may_keep(&self, purse: &Purse) -> bool
+        ensures none { IsTrue result → self.now.run ≡ None }
+        ensures fits { IsTrue result → length self.now.kept < self.now.room }
+        ensures supply { IsTrue result → 0 < length purse.now.pages }
+    {
+        self.run.is_none() && self.kept.len() < self.room as usize && purse.len() > 0
+    }
+
+    /// What is always true of the pages. It does nothing.
+    pub(crate) fn limits(&self)
+        ensures { ArePages self.now }
+    {
+        let _last = self.last.as_slice();
+    }
+
+    /// Keeps a page behind the others that are kept.
+    pub(crate) fn keep(&mut self, page: Segment)
+        requires some { 0 < used page }
+        requires within { used page ≤ length (body page) }
+        requires fits { length self.old.kept < self.old.room }
+        ensures kept { self.new.kept ≡ self.old.kept ++ page ∷ [] }
+        ensures run { self.new.run ≡ self.old.run }
+        ensures last { self.new.last ≡ self.old.last }
+        ensures room { self.new.room ≡ self.old.room }
+    {
+        self.kept.push_reserved(page);
+    }
+
+    /// Spills a page behind those before it.
+    pub(crate) fn spill_page<D: Spill>(
+        &mut self,
+        page: &mut Segment,
+        disk: &mut D,
+    ) -> Result<(), StreamFault>
+        requires some { 0 < used page.old }
+        requires within { used page.old ≤ length (body page.old) }
+        requires stands { IfTold (D.told disk.old) (λ blocks. IsSpilled blocks (length page.old.bytes) self.old.run) }
+        ensures cause { HasWriteCause (D.fault_count disk.old) (D.fault_count disk.new) result }
+        ensures same { IsSameSegment page.old page.new }
+        ensures part { part page.new ≡ part page.old }
+        ensures longer { OnOk result (BothTold (D.told disk.old) (D.told disk.new)
+            (IsLonger (length page.old.bytes) self.old.run self.new.run page.new.bytes)) }
+        ensures refused { OnErr result (BothTold (D.told disk.old) (D.told disk.new)
+            (IsUnchanged (length page.old.bytes) self.old.run self.new.run)) }
+        ensures kept { self.new.kept ≡ self.old.kept }
+        ensures last { self.new.last ≡ self.old.last }
+        ensures own { self.new.room ≡ self.old.room }
+    {
+        spill(&mut self.run, disk, page)
+    }
+
+    /// Whether it holds no more segments than its room.
+    pub(crate) fn fits_room(&self) -> bool
+        ensures { IsTrue result ↔ (length (held self.now) ≤ self.now.room) }
+    {
+        self.kept.len() + self.last.len() <= self.room as usize
+    }
+
+    /// Puts all of its segments into a purse.
+    pub(crate) fn give_all(&mut self, purse: &mut Purse)
+        requires { length purse.old.pages + length (held self.old) ≤ purse.old.room }
+        ensures empty { held self.new ≡ [] }
+        ensures run { self.new.run ≡ self.old.run }
+        ensures segments { MovesSegments self.old self.new purse.old.pages purse.new.pages }
+        ensures room { purse.new.room ≡ purse.old.room }
+        ensures own { self.new.room ≡ self.old.room }
+    {
+        give(&mut self.kept, purse);
+        give(&mut self.last, purse);
+    }
+
+    /// Takes the run of its spilled pages out.
+    pub(crate) fn take_run(&mut self) -> Option<RunWriter>
+        ensures run { result ≡ self.old.run }
+        ensures none { self.new.run ≡ None }
+        ensures kept { self.new.kept ≡ self.old.kept }
+        ensures last { self.new.last ≡ self.old.last }
+        ensures own { self.new.room ≡ self.old.room }
+    {
+        self.run.take()
+    }
+
+    /// Takes the page under way out.
+    pub(crate) fn take_last(&mut self) -> Option<Segment>
+        ensures page { self.old.last ≡ option_to_list result }
+        ensures last { self.new.last ≡ [] }
+        ensures fits { length self.new.kept ≤ self.new.room }
+        ensures some { IfSome result (λ page. 0 < used page) }
+        ensures within { IfSome result (λ page. used page ≤ length (body page)) }
+        ensures kept { self.new.kept ≡ self.old.kept }
+        ensures run { self.new.run ≡ self.old.run }
+        ensures own { self.new.room ≡ self.old.room }
+    {
+        self.last.pop()
+    }
+
+    /// Makes a page the one under way.
+    pub(crate) fn put_last(&mut self, page: Segment)
+        requires none { self.old.last ≡ [] }
+        requires some { 0 < used page }
+        requires within { used page ≤ length (body page) }
+        ensures last { self.new.last ≡ page ∷ [] }
+        ensures kept { self.new.kept ≡ self.old.kept }
+        ensures run { self.new.run ≡ self.old.run }
+        ensures own { self.new.room ≡ self.old.room }
+    {
+        self.last.push_reserved(page);
+    }
+
+    /// Takes the pages back that a feed has. The segments that it was lent go to the purse.
+    pub(crate) fn take_back(&mut self, feed: &mut Feed, purse: &mut Purse)
+        requires whole { 0 < length (kept_in feed.old) + length (last_in feed.old) →
+            length self.old.kept + length self.old.last ≡ 0 }
+        requires fits { length (kept_in feed.old) ≤ self.old.room }
+        requires filled { All (λ page. 0 < length (part page)) (kept_in feed.old) }
+        requires one { length (last_in feed.old) ≤ 1 }
+        requires some { 0 < length (last_in feed.old) → 0 < used (page_at (last_in feed.old) 0) }
+        requires within { used (page_at (last_in feed.old) 0) ≤ length (body (page_at (last_in feed.old) 0)) }
+        requires room { length purse.old.pages + length (lent feed.old) ≤ purse.old.room }
+        ensures kept { self.new.kept ≡ self.old.kept ++ kept_in feed.old }
+        ensures last { self.new.last ≡ self.old.last ++ last_in feed.old }
+        ensures run { self.new.run ≡ self.old.run }
+        ensures own { self.new.room ≡ self.old.room }
+        ensures feed { feed.new ≡ stopped feed.old.room feed.old.reach }
+        ensures room { purse.new.room ≡ purse.old.room }
+        ensures segments { (h : ℕ → ℕ → ℕ) → weigh h purse.new.pages ≡ weigh h purse.old.pages + weigh h (lent feed.old) }
+    {
+        take_pages(&mut self.kept, &mut self.last, feed, purse);
+    }
+
+    /// Hands all pages over to a feed, which takes segments from the purse to read spilled pages into.
+    pub(crate) fn hand_over(&mut self, feed: &mut Feed, purse: &mut Purse)
+        requires rest { feed.old ≡ stopped feed.old.room feed.old.reach }
+        requires seat { feed.old.room ≡ self.old.room }
+        requires supply { feed.old.reach ≤ length purse.old.pages }
+        ensures over { HandsOver self.old self.new feed.old feed.new }
+        ensures started { IsStarted feed.new }
+        ensures fits { length self.old.kept ≤ self.old.room }
+        ensures filled { All (λ page. 0 < length (part page)) self.old.kept }
+        ensures one { length self.old.last ≤ 1 }
+        ensures some { 0 < length self.old.last → 0 < used (page_at self.old.last 0) }
+        ensures within { used (page_at self.old.last 0) ≤ length (body (page_at self.old.last 0)) }
+        ensures room { purse.new.room ≡ purse.old.room }
+        ensures segments { (h : ℕ → ℕ → ℕ) → weigh h purse.new.pages + weigh h feed.new.blank ≡ weigh h purse.old.pages }
+    {
+        let reader = reader_of(&self.run);
+        give_pages(&mut self.kept, &mut self.last, reader, feed, purse);
+    }
+
+    /// Ends them where they hold no segment.
+    pub(crate) fn end(self)
+        requires { held self ≡ [] }
+    {
+        let StoredPages {
+            kept,
+            room: _,
+            run: _,
+            last,
+        } = self;
+        kept.destroy_empty();
+        last.destroy_empty();
+    }
+}
+
+// Puts segments into a purse, all of them.
+fn give(pages: &mut Vec<Segment>, purse: &mut Purse)
+    requires { length purse.old.pages + length pages.old.items ≤ purse.old.room }
+    ensures none { pages.new.items ≡ [] }
+    ensures len { vec_len pages.new ≡ 0 }
+    ensures capacity { vec_capacity pages.new ≡ vec_capacity pages.old }
+    ensures room { purse.new.room ≡ purse.old.room }
+    ensures segments { (h : ℕ → ℕ → ℕ) → weigh h purse.new.pages ≡ weigh h purse.old.pages + weigh h pages.old.items }
+    ensures count { length purse.new.pages ≡ length purse.old.pages + length pages.old.items }
+{
+    'pages: while let Some(page) = pages.pop() {
+        purse.put(page);
+    }
+}

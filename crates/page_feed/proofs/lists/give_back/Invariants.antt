@@ -1,0 +1,14 @@
+use Rattle.std.proofs.Common.{◌≡◌, ℕ, ◌+◌, length, vec_len, vec_capacity}
+use Rattle.segment_core.specs.Segments.{weigh}
+use Rattle.page_feed.proofs.lists.give_back.Given as goal
+
+abbrev pub invariant-segments : goal.invariant-segments
+invariant-segments l = record {
+  capacity : vec_capacity l.from ≡ vec_capacity l.fn.from;
+  room : l.purse.room ≡ l.fn.purse.room;
+  segments : (h : ℕ → ℕ → ℕ) → weigh h l.purse.pages + weigh h l.from.items ≡ weigh h l.fn.purse.pages + weigh h l.fn.from.items;
+  count : length l.purse.pages + vec_len l.from ≡ length l.fn.purse.pages + vec_len l.fn.from;
+}
+
+abbrev pub decreases-segments : goal.decreases-segments
+decreases-segments l = vec_len l.from

@@ -1,0 +1,4 @@
+pub mod Reach
+pub mod Feeds
+pub mod Feeding
+pub mod ReachLaw

@@ -1,0 +1,75 @@
+ghost use Rattle.std.specs.Prelude.{◌≡◌, ◌↔◌, ℕ, ◌<◌, ◌≤◌, true, false, [], List, None, Ok, IfOk, IsOk, IsErrOf, MatchResult, is_some, length};
+ghost use Rattle.flow_outside.specs.Causes.{HasStreamCause};
+ghost use Rattle.flow_outside.specs.Told.{IfTold};
+ghost use Rattle.paged_view.specs.Reading.{HasRecord};
+ghost use Rattle.paged_view.specs.Streams.{Advances};
+ghost use Rattle.segment_core.specs.Segments.{misfits, weigh};
+ghost use Rattle.page_feed.specs.Feeding.{GoesOn, IsKnown, IsStuck, pages_to_give};
+ghost use Rattle.page_feed.specs.Feeds.{HasBlockLeft, HasLeft, IsLeftReadable, IsStarted, block_of, kept_in, last_in, lent, most_left};
+
+use crate::feed::Feed;
+use flow_outside::failure::StreamFault;
+use flow_outside::spill::Spill;
+
+impl Feed {
+    /// Moves to the next record, which it then shows: false exactly at the end. It reads each page of the
+    /// run once, when the first record that touches it is reached, and changes no block of the disk.
+    ///
+    /// `Spill` comes only where the disk's count of faults rose in this call, and `Damaged`, with the block
+    /// that was read last, only over a disk that doesn't tell. After either no record is shown.
+    pub fn advance<D: Spill>(&mut self, disk: &mut D) -> Result<bool, StreamFault>
+        requires started { IsStarted self.old }
+        requires known { IfTold (D.told disk.old) (λ blocks. (rows : List (List ℕ)) × HasLeft blocks self.old rows) }
+        ensures started { IsStarted self.new }
+        ensures rows { IfOk result (λ more. IfTold (D.told disk.old) (λ blocks. (rows : List (List ℕ)) →
+            HasLeft blocks self.old rows → Advances rows more self.new.shown (HasLeft blocks self.new))) }
+        ensures shows { MatchResult result
+            (λ more. is_some self.new.shown ≡ more)
+            (λ _. self.new.shown ≡ None) }
+        ensures later { most_left self.new ≤ most_left self.old }
+        ensures falls { result ≡ Ok true → most_left self.new < most_left self.old }
+        ensures kept { kept_in self.new ≡ kept_in self.old }
+        ensures last { last_in self.new ≡ last_in self.old }
+        ensures lent { (h : ℕ → ℕ → ℕ) → weigh h (lent self.new) ≡ weigh h (lent self.old) }
+        ensures own { (self.new.room ≡ self.old.room) × (self.new.reach ≡ self.old.reach) }
+        ensures among { IfTold (D.told disk.old) (λ blocks. (block : ℕ) →
+            HasBlockLeft blocks self.new.run block → HasBlockLeft blocks self.old.run block) }
+        ensures readable { IfTold (D.told disk.old) (λ blocks. (size : ℕ) →
+            misfits size self.old.blank ≡ 0 → misfits size (lent self.old) ≡ 0 →
+            IsLeftReadable blocks size self.old.run → IsLeftReadable blocks size self.new.run) }
+        ensures tells { D.told disk.new ≡ D.told disk.old }
+        ensures counted { D.given disk.new ≡ D.given disk.old }
+        ensures cause { HasStreamCause (D.fault_count disk.old) (D.fault_count disk.new)
+            (D.told disk.old) result }
+        ensures damaged { (block : ℕ) → IsErrOf result (StreamFault.Damaged block) →
+            block ≡ block_of self.new.run }
+    {
+        'pages: loop {
+            if self.show_next() {
+                return Ok(true);
+            }
+            self.put_all_away();
+            match self.give_next(disk) {
+                Ok(true) => (),
+                Ok(false) => return self.end_of_text(),
+                Err(fault) => return Err(fault),
+            }
+        }
+    }
+
+    // The answer where the reader has no whole record and no page can be given to it.
+    fn end_of_text(&self) -> Result<bool, StreamFault>
+        ensures end { IsOk result ↔ (self.now.reader.text ≡ []) }
+        ensures none { IfOk result (λ more. more ≡ false) }
+        ensures damaged { (block : ℕ) → IsErrOf result (StreamFault.Damaged block) → block ≡ block_of self.now.run }
+        ensures read { IsErrOf result StreamFault.Spill → ⊥ }
+    {
+        if self.reader.is_read_out() {
+            Ok(false)
+        } else {
+            Err(StreamFault::Damaged {
+                block: self.block(),
+            })
+        }
+    }
+}
