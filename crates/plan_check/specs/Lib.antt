@@ -5,3 +5,4 @@ pub mod Trees
 pub mod Steps
 pub mod Walks
 pub mod Shapes
+pub mod FirstPlaces

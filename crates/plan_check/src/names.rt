@@ -1,10 +1,11 @@
 ghost use Rattle.std.specs.Prelude.{◌≡◌, ◌++◌, ◌∷◌, [], IfOk, OnOk};
 ghost use Rattle.std.specs.Option.{option_copied};
-ghost use Rattle.std.specs.Str.{bytes_eq};
 ghost use Rattle.plan_check.specs.Places.{places_of, places, place_at, is_seen_at, is_seen_at_end, is_outer, number_of, stands_before};
+ghost use Rattle.plan_check.specs.FirstPlaces.{ShowsFirst, NotesFirst};
 
 use flow_outside::failure::Memory;
 use flow_types::name::Name;
+use indexmap::IndexMap;
 use plan_text::tree::{TreeNode, TreeOp};
 use std::alloc::Global;
 use std::marker::Model;
@@ -27,12 +28,6 @@ impl Model for NamePlace {
 }
 
 impl NamePlace {
-    fn is_of(&self, name: &Name) -> bool
-        ensures { result ≡ bytes_eq self.now.name name.now }
-    {
-        self.name.as_str() == name.as_str()
-    }
-
     fn is_seen_at(&self, number: u32, home: u32) -> bool
         ensures { result ≡ is_seen_at number home self.now }
     {
@@ -46,24 +41,32 @@ impl NamePlace {
     }
 }
 
-/// All names of a plan in document order, seen as the list of their places. A name is looked for from
-/// the first on: a plan has at most 128 names of at most 32 bytes.
+/// All names of a plan in document order, seen as the list of their places. A look-up costs one hash of
+/// at most 32 bytes, and copies nothing.
+///
+/// A name's text stands twice, as the map's key and in its place: a place is lent with its name, and a
+/// key can't be borrowed from the list beside it. A plan has at most 128 names.
 #[derive(Debug, Drop)]
 pub struct Names {
+    /// For each name the position of its first place.
+    first: IndexMap<String, usize>,
     places: Vec<NamePlace>,
 }
 
 impl Model for Names {
     ghost use Rattle.std.specs.Prelude.{List};
     ghost use Rattle.plan_check.specs.Places.{Place};
+    ghost use Rattle.plan_check.specs.FirstPlaces.{ShowsFirst};
 
     ghost Value = { List Place };
 
     ghost view = { λ names. names.places.items };
+
+    ghost invariant = { λ names. ShowsFirst names.first names.places.items };
 }
 
 impl Names {
-    /// The names that nodes bring; the cost is a copy of each.
+    /// The names that nodes bring; the cost is two copies of each.
     pub fn of(alloc: Global, nodes: &[TreeNode]) -> Result<Names, Memory>
         ensures { IfOk result (λ names. names ≡ places nodes.now) }
     {
@@ -71,17 +74,16 @@ impl Names {
         for node in nodes {
             add_places(alloc, &mut places, node)?;
         }
-        Ok(Names { places })
+        let first = first_places(alloc, places.as_slice())?;
+        Ok(Names { first, places })
     }
 
     /// The first place of a name.
     fn find(&self, name: &Name) -> Option<&NamePlace>
         ensures { option_copied result ≡ place_at self.now name.now }
     {
-        self.places
-            .as_slice()
-            .iter()
-            .find(|place| place.is_of(name))
+        let position = *self.first.get(name.as_str())?;
+        self.places.get(position)
     }
 
     /// The number that a name stands for at a node of this number in the body of `home`, or in the
@@ -153,4 +155,34 @@ fn add_place(
         Ok(()) => Ok(()),
         Err(_) => Err(Memory),
     }
+}
+
+/// The position of each name's first place among these.
+fn first_places(alloc: Global, places: &[NamePlace]) -> Result<IndexMap<String, usize>, Memory>
+    ensures { IfOk result (λ first. ShowsFirst first places.now) }
+{
+    let mut first = IndexMap::new(alloc);
+    for position in 0..places.len() {
+        let place = &places[position];
+        note_first(alloc, &mut first, &place.name, position)?;
+    }
+    Ok(first)
+}
+
+/// Notes the position of a name, unless it has one already.
+fn note_first(
+    alloc: Global,
+    first: &mut IndexMap<String, usize>,
+    name: &Name,
+    position: usize,
+) -> Result<(), Memory>
+    ensures { OnOk result (NotesFirst first.old name.now position first.new) }
+{
+    let text = name.as_str();
+    if first.contains_key(text) {
+        return Ok(());
+    }
+    let key = String::from_str(alloc, text)?;
+    first.insert(key, position)?;
+    Ok(())
 }
