@@ -12,7 +12,7 @@ use Rattle.spool.specs.Reading.{number_at}
 use Rattle.spool.specs.Runs.{HasBlock, Stands, joined, pages_at}
 use Rattle.spool.specs.declared.place.RunReader.{RunReader}
 use Rattle.spool.specs.declared.writer.RunWriter.{RunWriter}
-use Rattle.page_feed.specs.Feeds.{Fed, HasBlockLeft, HasLeft, IsLeftReadable, kept_in, last_in, lent, pages_left}
+use Rattle.page_feed.specs.Feeds.{Fed, HasBlockLeft, block_of, HasLeft, IsLeftReadable, kept_in, last_in, lent, pages_left}
 use Rattle.page_feed.specs.Reach.{IsWithinReach, behind, sizes_of, touched}
 use Rattle.page_feed.proofs.ReachLemmas.{behind_past, behind_within}
 use Rattle.lot_store.specs.Spilling.{IsFreeOrOwn, IsSpilled, OwnsBlock, spilled}
@@ -29,6 +29,13 @@ left_begun m None (Some reader) begins = absurd begins
 left_begun m (Some writer) None begins = absurd begins
 left_begun m (Some writer) (Some reader) begins =
     ap (λ k. pages_at m k reader.left) begins.at ∙ ap (pages_at m writer.first) begins.left
+
+-- It has read no page.
+pub none_begun : (u : Option RunWriter) (v : Option RunReader) → BeginsRun u v → block_of v ≡ 0
+none_begun None None begins = refl
+none_begun None (Some reader) begins = absurd begins
+none_begun (Some writer) None begins = absurd begins
+none_begun (Some writer) (Some reader) begins = begins.none
 
 pub readable_begun : (m : Blocks) (size : ℕ) (u : Option RunWriter) (v : Option RunReader) → BeginsRun u v → IsSpilled m size u → IsLeftReadable m size v
 readable_begun m size None None begins stands = tt

@@ -6,11 +6,12 @@ use Rattle.page_feed.specs.Feeds.{Fed, stopped}
 use Rattle.lot_store.specs.Stores.{Stored}
 use Rattle.lot_store.specs.Lots.{LotView}
 
--- The reader stands at the first page of what the writer has pushed.
+-- The reader stands at the first page of what the writer has pushed, and has read none.
 pub record IsAtFirst (writer : RunWriter) (reader : RunReader) : Type 0 where
   pub at : reader.at ≡ writer.first
   pub left : reader.left ≡ writer.pages
   pub pages : reader.pages ≡ writer.pages
+  pub none : reader.block ≡ 0
 
 -- There is such a reader exactly where there is a run.
 abbrev pub BeginsRun : Option RunWriter → Option RunReader → Type 0

@@ -29,6 +29,7 @@ impl Lot {
         ensures rows { IfTold (D.told disk.old) (λ blocks. (rows : List (List ℕ)) →
             HoldsRows blocks self.old rows → HoldsRows blocks self.new rows × HasLeft blocks self.new.feed rows) }
         ensures shown { self.new.feed.shown ≡ None }
+        ensures block { block_of self.new.feed.run ≡ 0 }
         ensures pages { pages_of self.new ≡ pages_of self.old }
         ensures keeps { BothTold (D.told disk.old) (D.told disk.new)
             (Keeps self.old self.new purse.old.pages purse.new.pages) }

@@ -2,7 +2,7 @@ use Rattle.std.proofs.Common.{◌+◌, ◌≤◌, length, ap, sym, ◌∙◌, ar
 use Rattle.page_feed.specs.Feeds.{Fed}
 use Rattle.lot_store.specs.Lots.{held}
 use Rattle.lot_store.proofs.RestLemmas.{back_count, lot_fits}
-use Rattle.lot_store.proofs.ReadLemmas.{keeps_rewound, moves_rewound, rows_rewound, sound_rewound}
+use Rattle.lot_store.proofs.ReadLemmas.{keeps_rewound, moves_rewound, none_begun, rows_rewound, sound_rewound}
 use Rattle.lot_store.proofs.lot.Lot.rewind.Goals as goal
 
 pub begin-requires-clause-supply : goal.begin-requires-clause-supply
@@ -12,6 +12,9 @@ begin-requires-clause-supply g c =
 pub returns-clause-rows : goal.returns-clause-rows
 returns-clause-rows g c =
     rows_rewound _ c.args.self.now c.stop.new.self c.begin.new.self c.args.purse.now.pages c.stop.new.purse.pages c.begin.new.purse.pages c.stop.ensures.stored (ap (λ (f : Fed). f.reach) c.stop.ensures.feed) c.stop.ensures.segments c.begin.ensures.begins c.begin.ensures.segments c.requires.sound
+
+pub returns-clause-block : goal.returns-clause-block
+returns-clause-block g c = none_begun c.stop.new.self.stored.run c.begin.new.self.feed.run c.begin.ensures.begins.begins
 
 pub returns-clause-keeps : goal.returns-clause-keeps
 returns-clause-keeps g c =
