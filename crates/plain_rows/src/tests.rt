@@ -148,10 +148,25 @@ fn examples_give_their_rows(rt: HostRuntime) {
         (&RIGHT, 3, "1,x / 2,y + 2,7 / 3,8", "0,-,3,8 / 2,y,2,7"),
         (&UNION, 3, "1,x / 2,y + 2,y / 3,z", "1,x / 2,y / 2,y / 3,z"),
         (&TEXTS, 2, "b,bc / a, / b,d", "a / bbc / bd"),
-        (&TEXTS, 3, "abc,1 / aé,2 / €,3 / é,4 / x,5", ",3 / a,2 / ab,1 / x,5 / é,4"),
-        (&FLAGS, 2, "true,1 / false,200 / true,5", "false,200,1 / true,6,2"),
+        (
+            &TEXTS,
+            3,
+            "abc,1 / aé,2 / €,3 / é,4 / x,5",
+            ",3 / a,2 / ab,1 / x,5 / é,4",
+        ),
+        (
+            &FLAGS,
+            2,
+            "true,1 / false,200 / true,5",
+            "false,200,1 / true,6,2",
+        ),
         (&FLAGS, 3, "true,1 / false,200 / true,5", "true,1 / true,5"),
-        (&FLAGS, 5, "true,1 / false,200 / true,5", "false / false / true"),
+        (
+            &FLAGS,
+            5,
+            "true,1 / false,200 / true,5",
+            "false / false / true",
+        ),
         (
             &COGROUP,
             3,
@@ -194,8 +209,10 @@ fn loads_are_full_where_they_are_above(rt: HostRuntime) {
     ];
     for (count, workers, budget, want) in cases {
         let rows = counted(alloc, count).expect(&rt, "no rows");
-        let found =
-            first_full(alloc, LOADED, rows.as_str(), workers, budget).expect(&rt, "no answer");
+        let found = first_full(alloc, LOADED, rows.as_str(), workers, budget).expect(
+            &rt,
+            "no answer",
+        );
         assert_eq!(rt; found.as_str(), want, "{count}");
     }
 }
@@ -224,8 +241,10 @@ fn swaps_are_full_where_they_are_above(rt: HostRuntime) {
     ];
     for (lengths, workers, budget, want) in cases {
         let rows = long_texts(alloc, lengths).expect(&rt, "no rows");
-        let found =
-            first_full(alloc, SWAPPED, rows.as_str(), workers, budget).expect(&rt, "no answer");
+        let found = first_full(alloc, SWAPPED, rows.as_str(), workers, budget).expect(
+            &rt,
+            "no answer",
+        );
         assert_eq!(rt; found.as_str(), want, "{lengths}");
     }
 }
