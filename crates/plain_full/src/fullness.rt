@@ -23,7 +23,7 @@ use std::alloc::Global;
 ///
 /// The budget may be below the plan's minimum; a worker's part is then the least. The inputs are one
 /// list of rows for each source in plan order, which need not fit their schemas. Want of memory is also
-/// answered where an expression's text passes a text's limit, which no accepted plan has.
+/// answered where an expression's text passes a text's limit, as it can over inputs that don't fit.
 ///
 /// It is plain: the cost is that of `eval_rows`, where each delta iteration is gone through twice and
 /// each worker hashes the key of each entry in each superstep.
