@@ -17,8 +17,8 @@ use std::alloc::Global;
 
 /// The rows of a plan's result, as the algebra gives them of the inputs, one list of rows for each
 /// source in plan order; a source past the inputs has no rows. Every op is served, and the plan need
-/// not be an accepted one. An expression whose text passes a text's limit, which no accepted plan
-/// has, is answered as want of memory.
+/// not be an accepted one. An expression whose text passes a text's limit is answered as want of memory;
+/// an accepted plan over inputs that fit has none.
 ///
 /// It is the plain program: the cost is a copy of the rows that each node gives, and for an op that
 /// goes by keys a sort of its rows, in each superstep anew.
