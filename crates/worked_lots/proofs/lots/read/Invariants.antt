@@ -1,0 +1,16 @@
+use Rattle.std.proofs.Common.{◌≡◌}
+use Rattle.paged_view.specs.Streams.{KnowsRows}
+use Rattle.page_feed.specs.Feeds.{most_left}
+use Rattle.lot_store.specs.Lots.{IsLeft}
+use Rattle.worked_lots.specs.Worked.{ReadsOn}
+use Rattle.worked_lots.proofs.lots.read.Given as goal
+
+abbrev pub invariant-records : goal.invariant-records
+invariant-records g l = record {
+  known : KnowsRows (g.D.Spill.told l.disk) (IsLeft l.lot (g.D.Spill.told l.disk));
+  keeps : ReadsOn (g.D.Spill.told l.fn.disk) l.fn.lot l.lot;
+  tells : g.D.Spill.told l.disk ≡ g.D.Spill.told l.fn.disk;
+}
+
+abbrev pub decreases-records : goal.decreases-records
+decreases-records g l = most_left l.lot.feed

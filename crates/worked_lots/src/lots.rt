@@ -1,0 +1,276 @@
+ghost use Rattle.std.specs.Prelude.{◌≡◌, ℕ, ◌+◌, ◌<◌, ◌≤◌, [], OnOk, length};
+ghost use Rattle.lot_store.specs.Lots.{IsLeft, IsRewound, empty, held};
+ghost use Rattle.paged_view.specs.Streams.{KnowsRows};
+ghost use Rattle.segment_core.specs.Segments.{misfits, weigh};
+ghost use Rattle.worked_lots.specs.Worked.{CanAppend, CanRewind, Holds, Moves, ReadsOn, Stands};
+
+use crate::rows::{is_row, row_of};
+use flow_outside::failure::StreamFault;
+use flow_outside::spill::Spill;
+use lot_store::lot::Lot;
+use paged_view::stream::RecordStream;
+use segment_core::{Pool, Purse};
+use std::alloc::Global;
+use std::process::Abort;
+
+/// Adds a record of at most 12,000 bytes.
+fn add<D: Spill>(
+    lot: &mut Lot,
+    row: &[u8],
+    purse: &mut Purse,
+    disk: &mut D,
+) -> Result<(), StreamFault>
+    requires short { length row.now ≤ 12000 }
+    requires reach { 5 ≤ lot.old.feed.reach }
+    requires stands { Stands (D.told disk.old) lot.old purse.old }
+    requires holds { Holds (D.told disk.old) lot.old }
+    requires room { length purse.old.pages + length (held lot.old) ≤ purse.old.room }
+    requires supply { CanAppend lot.old purse.old }
+    ensures stands { Stands (D.told disk.new) lot.new purse.new }
+    ensures holds { OnOk result (Holds (D.told disk.new) lot.new) }
+    ensures room { length purse.new.pages + length (held lot.new) ≤ purse.new.room }
+    ensures supply { OnOk result (CanAppend lot.new purse.new) }
+    ensures moves { Moves lot.old lot.new purse.old purse.new }
+    ensures own { (lot.new.stored.room ≡ lot.old.stored.room) × (lot.new.feed.reach ≡ lot.old.feed.reach) }
+    ensures seat { purse.new.room ≡ purse.old.room }
+{
+    lot.append(&row, purse, disk)
+}
+
+/// Adds the first records, so many of them, each of `len` bytes.
+fn fill<D: Spill>(
+    lot: &mut Lot,
+    bytes: &[u8],
+    count: usize,
+    len: usize,
+    purse: &mut Purse,
+    disk: &mut D,
+) -> Result<(), StreamFault>
+    requires short { len ≤ 12000 }
+    requires bytes { len + 251 ≤ length bytes.now }
+    requires reach { 5 ≤ lot.old.feed.reach }
+    requires stands { Stands (D.told disk.old) lot.old purse.old }
+    requires holds { Holds (D.told disk.old) lot.old }
+    requires room { length purse.old.pages + length (held lot.old) ≤ purse.old.room }
+    requires supply { CanAppend lot.old purse.old }
+    ensures stands { Stands (D.told disk.new) lot.new purse.new }
+    ensures holds { OnOk result (Holds (D.told disk.new) lot.new) }
+    ensures room { length purse.new.pages + length (held lot.new) ≤ purse.new.room }
+    ensures moves { Moves lot.old lot.new purse.old purse.new }
+    ensures own { (lot.new.stored.room ≡ lot.old.stored.room) × (lot.new.feed.reach ≡ lot.old.feed.reach) }
+    ensures seat { purse.new.room ≡ purse.old.room }
+{
+    let mut number = 0;
+    'rows: while number < count {
+        match add(lot, row_of(bytes, number, len), purse, disk) {
+            Ok(()) => number += 1,
+            Err(fault) => return Err(fault),
+        }
+    }
+    Ok(())
+}
+
+/// Reads the records to the end. How many of them, from the first on, are the right ones.
+fn read<D: Spill>(
+    lot: &mut Lot,
+    bytes: &[u8],
+    len: usize,
+    disk: &mut D,
+) -> Result<usize, StreamFault>
+    requires bytes { len + 251 ≤ length bytes.now }
+    requires ready { IsRewound lot.old }
+    requires known { KnowsRows (D.told disk.old) (IsLeft lot.old (D.told disk.old)) }
+    ensures keeps { ReadsOn (D.told disk.old) lot.old lot.new }
+    ensures tells { D.told disk.new ≡ D.told disk.old }
+{
+    let mut number = 0;
+    'records: loop {
+        match lot.advance(disk) {
+            Ok(true) => number = count_row::<D, Lot>(lot, bytes, number, len),
+            Ok(false) => return Ok(number),
+            Err(fault) => return Err(fault),
+        }
+    }
+}
+
+/// One more where the stream shows the record of this number.
+fn count_row<D: Spill, R: RecordStream<D>>(
+    stream: &R,
+    bytes: &[u8],
+    number: usize,
+    len: usize,
+) -> usize
+    requires { len + 251 ≤ length bytes.now }
+{
+    match stream.head() {
+        Some(row) => count_if(is_row(&row, row_of(bytes, number, len)), number),
+        None => number,
+    }
+}
+
+/// One more where it is so.
+fn count_if(is: bool, number: usize) -> usize {
+    if is { number.saturating_add(1) } else { number }
+}
+
+/// Reads the records from the first on.
+fn read_again<D: Spill>(
+    lot: &mut Lot,
+    bytes: &[u8],
+    len: usize,
+    purse: &mut Purse,
+    disk: &mut D,
+) -> Result<usize, StreamFault>
+    requires bytes { len + 251 ≤ length bytes.now }
+    requires stands { Stands (D.told disk.old) lot.old purse.old }
+    requires holds { Holds (D.told disk.old) lot.old }
+    requires room { length purse.old.pages + length (held lot.old) ≤ purse.old.room }
+    requires supply { CanRewind lot.old purse.old }
+    ensures stands { Stands (D.told disk.new) lot.new purse.new }
+    ensures holds { Holds (D.told disk.new) lot.new }
+    ensures room { length purse.new.pages + length (held lot.new) ≤ purse.new.room }
+    ensures supply { CanRewind lot.new purse.new }
+    ensures moves { Moves lot.old lot.new purse.old purse.new }
+    ensures seat { purse.new.room ≡ purse.old.room }
+{
+    let _begun = lot.rewind(purse, disk);
+    read(lot, bytes, len, disk)
+}
+
+/// Adds the first records, leaves at most `room` segments in the lot, and reads all of them twice. How many
+/// came back both times together.
+fn twice<D: Spill>(
+    lot: &mut Lot,
+    bytes: &[u8],
+    count: usize,
+    len: usize,
+    purse: &mut Purse,
+    disk: &mut D,
+) -> Result<usize, StreamFault>
+    requires short { len ≤ 12000 }
+    requires bytes { len + 251 ≤ length bytes.now }
+    requires reach { 5 ≤ lot.old.feed.reach }
+    requires stands { Stands (D.told disk.old) lot.old purse.old }
+    requires holds { Holds (D.told disk.old) lot.old }
+    requires room { length purse.old.pages + length (held lot.old) ≤ purse.old.room }
+    requires supply { CanAppend lot.old purse.old }
+    requires enough { lot.old.stored.room + lot.old.feed.reach ≤ length purse.old.pages + length (held lot.old) }
+    ensures stands { Stands (D.told disk.new) lot.new purse.new }
+    ensures room { length purse.new.pages + length (held lot.new) ≤ purse.new.room }
+    ensures moves { Moves lot.old lot.new purse.old purse.new }
+    ensures seat { purse.new.room ≡ purse.old.room }
+{
+    match settle(lot, bytes, count, len, purse, disk) {
+        Ok(()) => read_twice(lot, bytes, len, purse, disk),
+        Err(fault) => Err(fault),
+    }
+}
+
+/// Adds the first records, and leaves at most `room` segments in the lot.
+fn settle<D: Spill>(
+    lot: &mut Lot,
+    bytes: &[u8],
+    count: usize,
+    len: usize,
+    purse: &mut Purse,
+    disk: &mut D,
+) -> Result<(), StreamFault>
+    requires short { len ≤ 12000 }
+    requires bytes { len + 251 ≤ length bytes.now }
+    requires reach { 5 ≤ lot.old.feed.reach }
+    requires stands { Stands (D.told disk.old) lot.old purse.old }
+    requires holds { Holds (D.told disk.old) lot.old }
+    requires room { length purse.old.pages + length (held lot.old) ≤ purse.old.room }
+    requires supply { CanAppend lot.old purse.old }
+    requires enough { lot.old.stored.room + lot.old.feed.reach ≤ length purse.old.pages + length (held lot.old) }
+    ensures stands { Stands (D.told disk.new) lot.new purse.new }
+    ensures holds { OnOk result (Holds (D.told disk.new) lot.new) }
+    ensures room { length purse.new.pages + length (held lot.new) ≤ purse.new.room }
+    ensures supply { OnOk result (CanRewind lot.new purse.new) }
+    ensures moves { Moves lot.old lot.new purse.old purse.new }
+    ensures seat { purse.new.room ≡ purse.old.room }
+{
+    match fill(lot, bytes, count, len, purse, disk) {
+        Ok(()) => lot.rest(purse, disk),
+        Err(fault) => Err(fault),
+    }
+}
+
+/// Reads all records twice.
+fn read_twice<D: Spill>(
+    lot: &mut Lot,
+    bytes: &[u8],
+    len: usize,
+    purse: &mut Purse,
+    disk: &mut D,
+) -> Result<usize, StreamFault>
+    requires bytes { len + 251 ≤ length bytes.now }
+    requires stands { Stands (D.told disk.old) lot.old purse.old }
+    requires holds { Holds (D.told disk.old) lot.old }
+    requires room { length purse.old.pages + length (held lot.old) ≤ purse.old.room }
+    requires supply { CanRewind lot.old purse.old }
+    ensures stands { Stands (D.told disk.new) lot.new purse.new }
+    ensures room { length purse.new.pages + length (held lot.new) ≤ purse.new.room }
+    ensures moves { Moves lot.old lot.new purse.old purse.new }
+    ensures seat { purse.new.room ≡ purse.old.room }
+{
+    let first = match read_again(lot, bytes, len, purse, disk) {
+        Ok(first) => first,
+        Err(fault) => return Err(fault),
+    };
+    match read_again(lot, bytes, len, purse, disk) {
+        Ok(second) => Ok(first.saturating_add(second)),
+        Err(fault) => Err(fault),
+    }
+}
+
+/// The same with a lot of its own, whose records touch at most 5 pages, and which is dropped.
+fn with_lot<D: Spill>(
+    lot: Lot,
+    bytes: &[u8],
+    count: usize,
+    len: usize,
+    purse: &mut Purse,
+    disk: &mut D,
+) -> Result<usize, StreamFault>
+    requires short { len ≤ 12000 }
+    requires bytes { len + 251 ≤ length bytes.now }
+    requires fresh { lot ≡ empty lot.stored.room 5 }
+    requires sized { misfits 4096 purse.old.pages ≡ 0 }
+    requires room { length purse.old.pages ≤ purse.old.room }
+    requires enough { lot.stored.room + 5 ≤ length purse.old.pages }
+    ensures { (h : ℕ → ℕ → ℕ) → weigh h purse.new.pages ≡ weigh h purse.old.pages }
+{
+    let mut lot = lot;
+    let answer = twice(&mut lot, bytes, count, len, purse, disk);
+    let dropped = lot.drop_lot(purse, disk);
+    lot.end();
+    match dropped {
+        Ok(()) => answer,
+        Err(fault) => Err(fault),
+    }
+}
+
+/// The same with segments of a pool of its own, which all go home.
+pub(crate) fn run_on<D: Spill>(
+    rt: &impl Abort,
+    alloc: Global,
+    disk: &mut D,
+    room: u32,
+    bytes: &[u8],
+    count: usize,
+    len: usize,
+) -> Result<usize, StreamFault>
+    requires short { len ≤ 12000 }
+    requires bytes { len + 251 ≤ length bytes.now }
+    requires room { room ≤ 7 }
+{
+    let mut pool = Pool::open(alloc, 12, 4_096).expect(rt, "no memory");
+    let mut purse = pool.lease(12).expect(rt, "no memory");
+    let lot = Lot::open(alloc, room, 5).expect(rt, "no memory");
+    let answer = with_lot(lot, bytes, count, len, &mut purse, disk);
+    pool.restore(purse);
+    assert_eq!(rt; pool.free(), pool.total());
+    pool.close();
+    answer
+}
