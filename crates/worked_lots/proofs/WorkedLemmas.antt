@@ -1,5 +1,5 @@
 -- What the tests know of a lot, from call to call.
-use Rattle.std.proofs.Common.{◌≡◌, ℕ, ◌+◌, ◌-◌, ◌/◌, ◌^◌, ◌<◌, ◌≤◌, Bool, true, All, List, [], ◌∷◌, ◌++◌, length, Result, Ok, Err, OnOk, Option, Some, None, refl, sym, ap, ◌∙◌, subst, arith}
+use Rattle.std.proofs.Common.{◌≡◌, ℕ, ◌+◌, ◌-◌, ◌/◌, ◌^◌, ◌<◌, ◌≤◌, Bool, true, List, [], ◌∷◌, ◌++◌, length, Result, Ok, Err, OnOk, Option, Some, None, refl, sym, ap, ◌∙◌, subst, arith}
 use Rattle.std.proofs.lemmas.List.Elements.{All-nil}
 use Rattle.segment_core.specs.Segments.{Held, Page, misfits, weigh}
 use Rattle.segment_core.proofs.Weighing.{weigh-cons, weigh-ones, weigh-push}
@@ -7,10 +7,10 @@ use Rattle.flow_outside.specs.Blocks.{Blocks, BothTold}
 use Rattle.flow_outside.specs.Told.{IfTold}
 use Rattle.spool.specs.Headers.{IsSameSegment}
 use Rattle.paged_view.specs.Streams.{Advances, KnowsRows}
-use Rattle.page_feed.specs.Feeds.{HasLeft, lent}
-use Rattle.lot_store.specs.Lots.{HoldsRows, IsLeft, IsRewound, IsSound, LotView, StandsWith, empty, held, pages_of}
+use Rattle.page_feed.specs.Feeds.{HasLeft}
+use Rattle.lot_store.specs.Lots.{HoldsRows, IsLeft, IsRewound, IsSound, LotView, StandsWith, empty, held}
 use Rattle.lot_store.specs.LotKeeping.{AddsRow, Keeps, KeepsRows}
-use Rattle.worked_lots.specs.Worked.{CanAppend, CanRewind, Holds, Moves, ReadsOn, Stands}
+use Rattle.worked_lots.specs.Worked.{CanRewind, Holds, Moves, ReadsOn, Stands}
 
 pub sound_of : (t : Option Blocks) (a : LotView) (p : Held) → Stands t a p → IsSound t a p.pages
 sound_of None a p stands = tt

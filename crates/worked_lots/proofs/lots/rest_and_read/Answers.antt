@@ -1,4 +1,4 @@
-use Rattle.std.proofs.Common.{ap, ◌∙◌, arith}
+use Rattle.std.proofs.Common.{ap, arith}
 use Rattle.page_feed.specs.Feeds.{Fed}
 use Rattle.worked_lots.proofs.WorkedLemmas.{can_rewind, holds_untold, sound_untold, stands_untold, untold_on}
 use Rattle.worked_lots.proofs.lots.rest_and_read.Goals as goal
