@@ -1,15 +1,16 @@
 -- What the tests know of a lot, from call to call.
-use Rattle.std.proofs.Common.{◌≡◌, ℕ, ◌+◌, ◌-◌, ◌/◌, ◌^◌, ◌<◌, ◌≤◌, Bool, true, All, List, [], ◌∷◌, ◌++◌, length, Result, Ok, Err, OnOk, Option, Some, None, refl, sym, ap, ◌∙◌, subst, arith}
+use Rattle.std.proofs.Common.{◌≡◌, ℕ, ◌+◌, ◌-◌, ◌/◌, ◌^◌, ◌<◌, ◌≤◌, Bool, true, List, [], ◌∷◌, ◌++◌, length, Result, Ok, Err, OnOk, Option, Some, None, refl, sym, ap, ◌∙◌, subst, arith}
 use Rattle.std.proofs.lemmas.List.Elements.{All-nil}
 use Rattle.segment_core.specs.Segments.{Held, Page, misfits, weigh}
-use Rattle.segment_core.proofs.Weighing.{weigh-append, weigh-ones}
+use Rattle.segment_core.proofs.Weighing.{weigh-cons, weigh-ones, weigh-push}
 use Rattle.flow_outside.specs.Blocks.{Blocks, BothTold}
 use Rattle.flow_outside.specs.Told.{IfTold}
+use Rattle.spool.specs.Headers.{IsSameSegment}
 use Rattle.paged_view.specs.Streams.{Advances, KnowsRows}
-use Rattle.page_feed.specs.Feeds.{HasLeft, lent}
-use Rattle.lot_store.specs.Lots.{HoldsRows, IsLeft, IsRewound, IsSound, LotView, StandsWith, empty, held, pages_of}
+use Rattle.page_feed.specs.Feeds.{HasLeft}
+use Rattle.lot_store.specs.Lots.{HoldsRows, IsLeft, IsRewound, IsSound, LotView, StandsWith, empty, held}
 use Rattle.lot_store.specs.LotKeeping.{AddsRow, Keeps, KeepsRows}
-use Rattle.worked_lots.specs.Worked.{CanAppend, CanRewind, Holds, Moves, ReadsOn, Stands}
+use Rattle.worked_lots.specs.Worked.{CanRewind, Holds, Moves, ReadsOn, Stands}
 
 pub sound_of : (t : Option Blocks) (a : LotView) (p : Held) → Stands t a p → IsSound t a p.pages
 sound_of None a p stands = tt
@@ -134,3 +135,25 @@ room_read a b p t on fits =
 pub ok_any : {T E : Type 0} (answer : Result T E) (P : Type 0) → P → OnOk answer P
 ok_any (Ok value) P p = p
 ok_any (Err fault) P p = tt
+
+-- A disk that doesn't tell goes on not telling.
+pub untold_on : (t u : Option Blocks) (P : Blocks → Blocks → Type 0) → t ≡ None → BothTold t u P → u ≡ None
+untold_on None None P none change = refl
+untold_on None (Some n) P none change = absurd change
+untold_on (Some m) u P none change = let is = none in cc
+
+-- Over such a disk nothing is to be known.
+pub sound_untold : (t : Option Blocks) (a : LotView) (p : List Page) → t ≡ None → IsSound t a p
+sound_untold t a p none = subst (λ o. IsSound o a p) (sym none) tt
+
+pub stands_untold : (t : Option Blocks) (a : LotView) (p : Held) → t ≡ None → Stands t a p
+stands_untold t a p none = subst (λ o. Stands o a p) (sym none) tt
+
+pub holds_untold : (t : Option Blocks) (a : LotView) → t ≡ None → Holds t a
+holds_untold t a none = subst (λ o. Holds o a) (sym none) tt
+
+-- A page was taken from the purse, written and added.
+pub moves_page : (a b : LotView) (p q r : List Page) (page filled : Page) → p ≡ q ++ page ∷ [] → IsSameSegment page filled → ((h : ℕ → ℕ → ℕ) → weigh h r + weigh h (held b) ≡ weigh h (filled ∷ q) + weigh h (held a)) → (h : ℕ → ℕ → ℕ) → weigh h r + weigh h (held b) ≡ weigh h p + weigh h (held a)
+moves_page a b p q r page filled taken same moves h =
+    let one : h filled.id (length filled.bytes) ≡ h page.id (length page.bytes) = ap (λ i. h i (length filled.bytes)) same.id ∙ ap (h page.id) same.len in
+    omega (arith, moves h, weigh-cons h filled q, one, ap (weigh h) taken, weigh-push h q page)

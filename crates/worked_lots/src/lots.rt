@@ -1,9 +1,10 @@
-ghost use Rattle.std.specs.Prelude.{◌≡◌, ℕ, ◌+◌, ◌<◌, ◌≤◌, [], OnOk, length};
+ghost use Rattle.std.specs.Prelude.{◌≡◌, ℕ, ◌+◌, ◌<◌, ◌≤◌, [], None, OnOk, length};
 ghost use Rattle.lot_store.specs.Lots.{IsLeft, IsRewound, empty, held};
 ghost use Rattle.paged_view.specs.Streams.{KnowsRows};
 ghost use Rattle.segment_core.specs.Segments.{misfits, weigh};
 ghost use Rattle.worked_lots.specs.Worked.{CanAppend, CanRewind, Holds, Moves, ReadsOn, Stands};
 
+use crate::cuts::with_cuts;
 use crate::rows::{is_row, row_of};
 use flow_outside::failure::StreamFault;
 use flow_outside::spill::Spill;
@@ -224,6 +225,29 @@ fn read_twice<D: Spill>(
     }
 }
 
+/// Leaves at most `room` segments in the lot, and reads all records twice, over a disk that doesn't tell.
+pub(crate) fn rest_and_read<D: Spill>(
+    lot: &mut Lot,
+    bytes: &[u8],
+    len: usize,
+    purse: &mut Purse,
+    disk: &mut D,
+) -> Result<usize, StreamFault>
+    requires bytes { len + 251 ≤ length bytes.now }
+    requires untold { D.told disk.old ≡ None }
+    requires room { length purse.old.pages + length (held lot.old) ≤ purse.old.room }
+    requires enough { lot.old.stored.room + lot.old.feed.reach ≤ length purse.old.pages + length (held lot.old) }
+    ensures stands { Stands (D.told disk.new) lot.new purse.new }
+    ensures room { length purse.new.pages + length (held lot.new) ≤ purse.new.room }
+    ensures moves { Moves lot.old lot.new purse.old purse.new }
+    ensures seat { purse.new.room ≡ purse.old.room }
+{
+    match lot.rest(purse, disk) {
+        Ok(()) => read_twice(lot, bytes, len, purse, disk),
+        Err(fault) => Err(fault),
+    }
+}
+
 /// The same with a lot of its own, whose records touch at most 5 pages, and which is dropped.
 fn with_lot<D: Spill>(
     lot: Lot,
@@ -269,6 +293,28 @@ pub(crate) fn run_on<D: Spill>(
     let mut purse = pool.lease(12).expect(rt, "no memory");
     let lot = Lot::open(alloc, room, 5).expect(rt, "no memory");
     let answer = with_lot(lot, bytes, count, len, &mut purse, disk);
+    pool.restore(purse);
+    assert_eq!(rt; pool.free(), pool.total());
+    pool.close();
+    answer
+}
+
+/// Records that come by pages cut inside them, over a disk that doesn't tell.
+pub(crate) fn run_cuts_on<D: Spill>(
+    rt: &impl Abort,
+    alloc: Global,
+    disk: &mut D,
+    stream: &[u8],
+    bytes: &[u8],
+    len: usize,
+) -> Result<usize, StreamFault>
+    requires bytes { len + 251 ≤ length bytes.now }
+    requires untold { D.told disk.old ≡ None }
+{
+    let mut pool = Pool::open(alloc, 12, 4_096).expect(rt, "no memory");
+    let mut purse = pool.lease(12).expect(rt, "no memory");
+    let lot = Lot::open(alloc, 7, 5).expect(rt, "no memory");
+    let answer = with_cuts(lot, stream, bytes, len, &mut purse, disk);
     pool.restore(purse);
     assert_eq!(rt; pool.free(), pool.total());
     pool.close();

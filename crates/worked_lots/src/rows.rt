@@ -24,6 +24,23 @@ pub(crate) fn row_of(bytes: &[u8], number: usize, len: usize) -> &[u8]
     &bytes[start..start + len]
 }
 
+/// The framed records of the first numbers, so many of them.
+pub(crate) fn framed_rows(
+    alloc: Global,
+    bytes: &[u8],
+    count: usize,
+    len: u32,
+) -> Result<Vec<u8>, AllocError>
+    requires { len + 251 ≤ length bytes.now }
+{
+    let mut all = Vec::new(alloc);
+    for number in 0..count {
+        all.extend_from_slice(&len.to_be_bytes())?;
+        all.extend_from_slice(row_of(bytes, number, len as usize))?;
+    }
+    Ok(all)
+}
+
 /// Whether a record is this one.
 pub(crate) fn is_row(seen: &RecordRef<'_>, row: &[u8]) -> bool {
     let len = seen.len();

@@ -1,9 +1,10 @@
-use crate::lots::run_on;
-use crate::rows::pattern;
+use crate::lots::{run_cuts_on, run_on};
+use crate::rows::{framed_rows, pattern};
 use flow_outside::failure::StreamFault;
 use flow_outside::spill::Spill;
 use outside_memory::mem_spill::MemSpill;
 use outside_memory::spill_calls::SpillCall;
+use outside_memory::zero_spill::ZeroSpill;
 use std::test::Fail;
 
 #[test]
@@ -45,5 +46,16 @@ fn each_failing_call_is_told(rt: HostRuntime) -> Result<(), Fail> {
             assert_eq!(rt; disk.faults(), u64::from(fails));
         }
     }
+    Ok(())
+}
+
+#[test]
+fn pages_may_be_cut_inside_records(rt: HostRuntime) -> Result<(), Fail> {
+    let bytes = pattern(rt.alloc(), 751)?;
+    // Ten records of 504 bytes with their lengths, in six pages of at most 1,001 bytes, which are all kept.
+    let stream = framed_rows(rt.alloc(), &bytes, 10, 500)?;
+    let mut disk = ZeroSpill::new();
+    let rows = run_cuts_on(&rt, rt.alloc(), &mut disk, &stream, &bytes, 500);
+    assert_eq!(rt; rows, Ok(20));
     Ok(())
 }

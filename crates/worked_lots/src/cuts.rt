@@ -1,0 +1,134 @@
+ghost use Rattle.std.specs.Prelude.{◌≡◌, ℕ, ◌+◌, ◌<◌, ◌≤◌, None, length};
+ghost use Rattle.lot_store.specs.Lots.{empty, held};
+ghost use Rattle.segment_core.specs.Segments.{weigh};
+ghost use Rattle.spool.specs.Headers.{IsSameSegment};
+ghost use Rattle.worked_lots.specs.Worked.{Moves, Stands};
+
+use crate::lots::rest_and_read;
+use flow_outside::failure::StreamFault;
+use flow_outside::spill::Spill;
+use lot_store::lot::Lot;
+use segment_core::{Purse, Segment};
+
+/// Makes these the used bytes of a page.
+fn fill_page(page: &mut Segment, part: &[u8])
+    requires { length part.now ≤ 4000 }
+    ensures { IsSameSegment page.old page.new }
+{
+    let _len = page.bytes().len();
+    write_part(page.bytes_mut(), part);
+}
+
+/// Writes a page's number of used bytes, and these.
+fn write_part(bytes: &mut [u8], part: &[u8])
+    requires short { length part.now ≤ 4000 }
+    requires long { 4096 ≤ length bytes.old }
+{
+    bytes[..4].copy_from_slice(&(part.len() as u32).to_be_bytes());
+    bytes[16..16 + part.len()].copy_from_slice(part);
+}
+
+/// Adds a page with these used bytes, over a disk that doesn't tell.
+fn add_page<D: Spill>(
+    lot: &mut Lot,
+    part: &[u8],
+    purse: &mut Purse,
+    disk: &mut D,
+) -> Result<(), StreamFault>
+    requires short { length part.now ≤ 4000 }
+    requires untold { D.told disk.old ≡ None }
+    requires room { length purse.old.pages + length (held lot.old) ≤ purse.old.room }
+    ensures untold { D.told disk.new ≡ None }
+    ensures room { length purse.new.pages + length (held lot.new) ≤ purse.new.room }
+    ensures moves { Moves lot.old lot.new purse.old purse.new }
+    ensures own { (lot.new.stored.room ≡ lot.old.stored.room) × (lot.new.feed.reach ≡ lot.old.feed.reach) }
+    ensures seat { purse.new.room ≡ purse.old.room }
+{
+    match purse.take() {
+        Some(page) => {
+            let mut page = page;
+            fill_page(&mut page, part);
+            lot.append_page(page, purse, disk)
+        }
+        None => Ok(()),
+    }
+}
+
+/// Adds the bytes of a stream by pages of `size` bytes, the last one perhaps shorter.
+fn cut<D: Spill>(
+    lot: &mut Lot,
+    stream: &[u8],
+    size: usize,
+    purse: &mut Purse,
+    disk: &mut D,
+) -> Result<(), StreamFault>
+    requires some { 0 < size }
+    requires short { size ≤ 4000 }
+    requires untold { D.told disk.old ≡ None }
+    requires room { length purse.old.pages + length (held lot.old) ≤ purse.old.room }
+    ensures untold { D.told disk.new ≡ None }
+    ensures room { length purse.new.pages + length (held lot.new) ≤ purse.new.room }
+    ensures moves { Moves lot.old lot.new purse.old purse.new }
+    ensures own { (lot.new.stored.room ≡ lot.old.stored.room) × (lot.new.feed.reach ≡ lot.old.feed.reach) }
+    ensures seat { purse.new.room ≡ purse.old.room }
+{
+    let mut at = 0;
+    'cuts: while at < stream.len() {
+        let count = (stream.len() - at).min(size);
+        match add_page(lot, &stream[at..at + count], purse, disk) {
+            Ok(()) => at += count,
+            Err(fault) => return Err(fault),
+        }
+    }
+    Ok(())
+}
+
+/// Adds a stream's bytes by pages, and reads all records twice, with a lot that is dropped then.
+pub(crate) fn with_cuts<D: Spill>(
+    lot: Lot,
+    stream: &[u8],
+    bytes: &[u8],
+    len: usize,
+    purse: &mut Purse,
+    disk: &mut D,
+) -> Result<usize, StreamFault>
+    requires bytes { len + 251 ≤ length bytes.now }
+    requires untold { D.told disk.old ≡ None }
+    requires fresh { lot ≡ empty lot.stored.room 5 }
+    requires room { length purse.old.pages ≤ purse.old.room }
+    requires enough { lot.stored.room + 5 ≤ length purse.old.pages }
+    ensures { (h : ℕ → ℕ → ℕ) → weigh h purse.new.pages ≡ weigh h purse.old.pages }
+{
+    let mut lot = lot;
+    let answer = cut_and_read(&mut lot, stream, bytes, len, purse, disk);
+    let dropped = lot.drop_lot(purse, disk);
+    lot.end();
+    match dropped {
+        Ok(()) => answer,
+        Err(fault) => Err(fault),
+    }
+}
+
+/// The same, of a lot that stays.
+fn cut_and_read<D: Spill>(
+    lot: &mut Lot,
+    stream: &[u8],
+    bytes: &[u8],
+    len: usize,
+    purse: &mut Purse,
+    disk: &mut D,
+) -> Result<usize, StreamFault>
+    requires bytes { len + 251 ≤ length bytes.now }
+    requires untold { D.told disk.old ≡ None }
+    requires room { length purse.old.pages + length (held lot.old) ≤ purse.old.room }
+    requires enough { lot.old.stored.room + lot.old.feed.reach ≤ length purse.old.pages + length (held lot.old) }
+    ensures stands { Stands (D.told disk.new) lot.new purse.new }
+    ensures room { length purse.new.pages + length (held lot.new) ≤ purse.new.room }
+    ensures moves { Moves lot.old lot.new purse.old purse.new }
+    ensures seat { purse.new.room ≡ purse.old.room }
+{
+    match cut(lot, stream, 1_001, purse, disk) {
+        Ok(()) => rest_and_read(lot, bytes, len, purse, disk),
+        Err(fault) => Err(fault),
+    }
+}
