@@ -22,9 +22,9 @@ use Rattle.plan_json.specs.Reading.{Reading, ◌<$>◌, or_flaw}
 use Rattle.plan_json.specs.Names.{name_of, name_in, optional_name_in, names_in}
 use Rattle.plan_json.specs.Numbers.{within, number_of, count_in, field_number, key_in}
 use Rattle.plan_json.specs.Forms.{fields_in, delimiter_of, delimiter_in, combine_in, agg_of, aggs_in, order_item_of, order_in, kind_in, merge_in}
-use Rattle.plan_json.specs.Exprs.{limited_expr, expr_of, expr_in, columns_in, literals_in, default_in}
-use Rattle.plan_json.specs.Branches.{branch_of, branches_in}
-use Rattle.plan_json.specs.Branches as branches
+use Rattle.plan_exprs.specs.Exprs.{limited_expr, expr_of, expr_in, columns_in, literals_in, default_in}
+use Rattle.plan_exprs.specs.Branches.{branch_of, branches_in}
+use Rattle.plan_exprs.specs.Branches as branches
 use Rattle.plan_text.specs.declared.tree.TreeOp.{TreeOp}
 use Rattle.plan_text.specs.declared.tree.TreeOp.TheVariants as tree
 use Rattle.plan_text.specs.Ops.{where_formed, has_body, join_op, join_of, op_in}

@@ -10,6 +10,4 @@ mod node;
 mod numbering;
 mod ops;
 mod schemas;
-#[cfg(test)]
-mod tests;
 mod walk;

@@ -1,4 +1,2 @@
 pub mod DataLemmas
-pub mod Extents
-pub mod Limited
 pub mod ReadingLemmas

@@ -3,7 +3,4 @@ pub mod Reading
 pub mod Names
 pub mod Numbers
 pub mod Forms
-pub mod Exprs
-pub mod Counted
 pub mod Rows
-pub mod Branches

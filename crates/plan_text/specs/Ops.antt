@@ -13,8 +13,8 @@ use Rattle.plan_json.specs.Reading.{Reading, from_one, from_two, from_three, fro
 use Rattle.plan_json.specs.Names.{name_in, optional_name_in, names_in}
 use Rattle.plan_json.specs.Numbers.{count_in, key_in}
 use Rattle.plan_json.specs.Forms.{fields_in, delimiter_in, combine_in, aggs_in, order_in, kind_in, merge_in}
-use Rattle.plan_json.specs.Exprs.{expr_in, columns_in, default_in}
-use Rattle.plan_json.specs.Branches.{branches_in}
+use Rattle.plan_exprs.specs.Exprs.{expr_in, columns_in, default_in}
+use Rattle.plan_exprs.specs.Branches.{branches_in}
 use Rattle.plan_text.specs.declared.tree.TreeOp.{TreeOp}
 use Rattle.plan_text.specs.declared.tree.TreeOp.TheVariants as op
 

@@ -10,6 +10,4 @@ mod nodes;
 mod numbering;
 mod ops;
 pub mod plan;
-#[cfg(test)]
-mod tests;
 pub mod tree;

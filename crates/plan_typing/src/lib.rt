@@ -13,7 +13,5 @@ mod keys;
 mod op_types;
 pub mod ops;
 mod schemas;
-#[cfg(test)]
-mod tests;
 mod widen;
 mod within;

@@ -1,0 +1,10 @@
+use Rattle.std.proofs.Common.{◌≡◌, drop, map}
+use Rattle.serde_json.specs.View.{view}
+use Rattle.plan_json.specs.Json.{collected}
+use Rattle.plan_exprs.specs.Exprs.{literal_of}
+use Rattle.plan_json.proofs.DataLemmas.{onto}
+use Rattle.plan_exprs.proofs.literals.literals_of.Given as goal
+
+abbrev pub invariant-loop-value : goal.invariant-loop-value
+invariant-loop-value l =
+    collected literal_of (map view l.value-items) ≡ onto l.literals.items (collected literal_of (map view (drop l.value-index l.value-items)))
