@@ -1,0 +1,5 @@
+use Rattle.row_pipe.proofs.Adding.{added_row}
+use Rattle.row_pipe.proofs.give.add.Goals as goal
+
+pub returns-clause-adds : goal.returns-clause-adds
+returns-clause-adds g c = added_row c.append.result _ _ c.args.out.now c.append.new.self c.args.purse.now.pages (g.X.Span.seen c.args.row.now) c.requires.place c.append.ensures.rows
