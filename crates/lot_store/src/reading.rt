@@ -1,4 +1,4 @@
-ghost use Rattle.std.specs.Prelude.{◌≡◌, ℕ, ◌+◌, ◌<◌, ◌≤◌, true, List, None, Ok, IfOk, MatchResult, is_some, length, option_map};
+ghost use Rattle.std.specs.Prelude.{◌≡◌, ℕ, ◌+◌, ◌<◌, ◌≤◌, true, List, None, Ok, IfOk, IsErrOf, MatchResult, is_some, length, option_map};
 ghost use Rattle.flow_outside.specs.Blocks.{BothTold};
 ghost use Rattle.flow_outside.specs.Causes.{HasStreamCause};
 ghost use Rattle.flow_outside.specs.Told.{IfTold};
@@ -77,6 +77,8 @@ impl<D: Spill> RecordStream<D> for Lot {
         ensures counted { D.given disk.new ≡ D.given disk.old }
         ensures cause { HasStreamCause (D.fault_count disk.old) (D.fault_count disk.new)
             (D.told disk.old) result }
+        ensures damaged { (block : ℕ) → IsErrOf result (StreamFault.Damaged block) →
+            block ≡ block_of self.new.feed.run }
         ensures pages { pages_of self.new ≡ pages_of self.old }
         ensures reach { self.new.feed.reach ≡ self.old.feed.reach }
         ensures holds { IfTold (D.told disk.old) (λ blocks. (rows : List (List ℕ)) →

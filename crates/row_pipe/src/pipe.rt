@@ -1,4 +1,4 @@
-ghost use Rattle.std.specs.Prelude.{◌≡◌, ◌+◌, ◌<◌, ◌≤◌, IfSome, OnOk, length};
+ghost use Rattle.std.specs.Prelude.{◌≡◌, ℕ, ◌+◌, ◌<◌, ◌≤◌, IfSome, IsErrOf, OnOk, length};
 ghost use Rattle.flow_outside.specs.Blocks.{BothTold};
 ghost use Rattle.flow_outside.specs.Causes.{HasStreamCause};
 ghost use Rattle.flow_outside.specs.Told.{IfTold};
@@ -74,6 +74,7 @@ fn pass_all<D: Spill>(
     requires places { IfTold (D.told disk.old) (HasPlaces p.now.takes p.now.work input.old out.old purse.old.pages) }
     requires left { IfTold (D.told disk.old) (λ blocks. (rows : Tuples) × LeavesTuples p.now.takes blocks input.old rows) }
     ensures cause { HasStreamCause (D.fault_count disk.old) (D.fault_count disk.new) (D.told disk.old) result }
+    ensures damaged { (block : ℕ) → IsErrOf result (StreamFault.Damaged block) → block ≡ block_of input.new.feed.run }
     ensures passes { Passes (D.told disk.old) (D.told disk.new) input.old input.new out.old out.new purse.old purse.new }
     ensures gives { OnOk result (BothTold (D.told disk.old) (D.told disk.new)
         (GivesAll p.now.takes p.now.work input.old out.old out.new purse.old.pages)) }
@@ -103,6 +104,7 @@ fn give_head<D: Spill>(
     requires places { IfTold (D.told disk.old) (HasPlaces p.now.takes p.now.work input.now out.old purse.old.pages) }
     requires shown { IfTold (D.told disk.old) (λ _. ShowsTuple p.now.takes input.now) }
     ensures cause { HasStreamCause (D.fault_count disk.old) (D.fault_count disk.new) (D.told disk.old) result }
+    ensures damaged { (block : ℕ) → IsErrOf result (StreamFault.Damaged block) → block ≡ block_of input.now.feed.run }
     ensures whole { OnOk result (IfSome input.now.feed.shown (IsRecord p.now.takes)) }
     ensures writes { Writes (D.told disk.old) (D.told disk.new) out.old out.new purse.old purse.new }
     ensures can { OnOk result (CanAdd (D.told disk.new) out.new purse.new) }
