@@ -3,3 +3,4 @@ pub mod CutLemmas
 pub mod LineLemmas
 pub mod CsvLemmas
 pub mod LineTextLemmas
+pub mod RowTextLemmas

@@ -73,7 +73,7 @@ fn lines_text(alloc: Global, rows: &[Row]) -> Result<Vec<u8>, Memory>
     into_text(writer)
 }
 
-fn new_writer(alloc: Global) -> Writer<Vec<u8>>
+pub(crate) fn new_writer(alloc: Global) -> Writer<Vec<u8>>
     ensures { HoldsText result [] }
 {
     WriterBuilder::new()
@@ -82,7 +82,7 @@ fn new_writer(alloc: Global) -> Writer<Vec<u8>>
 }
 
 /// Adds the line of a record.
-fn write_line(writer: &mut Writer<Vec<u8>>, fields: &ByteRecord) -> Result<(), Memory>
+pub(crate) fn write_line(writer: &mut Writer<Vec<u8>>, fields: &ByteRecord) -> Result<(), Memory>
     ensures { OnOk result ((text : List ℕ) → HoldsText writer.old text
         → HoldsText writer.new (text ++ row_text default_writer (fields_of fields.now))) }
 {
@@ -93,7 +93,7 @@ fn write_line(writer: &mut Writer<Vec<u8>>, fields: &ByteRecord) -> Result<(), M
 }
 
 /// The text that was written.
-fn into_text(writer: Writer<Vec<u8>>) -> Result<Vec<u8>, Memory>
+pub(crate) fn into_text(writer: Writer<Vec<u8>>) -> Result<Vec<u8>, Memory>
     ensures { IfOk result (λ v. (text : List ℕ) → HoldsText writer text → v.items ≡ text) }
 {
     match writer.into_inner() {
@@ -124,21 +124,21 @@ fn push_field(fields: &mut ByteRecord, value: &Value) -> Result<(), Memory>
     match value {
         Value::Long(n) => {
             let mut decimal = Buffer::new();
-            push_text(fields, decimal.format(*n))
+            push_bytes(fields, decimal.format(*n).as_bytes())
         }
-        Value::Bool(true) => push_text(fields, "true"),
-        Value::Bool(false) => push_text(fields, "false"),
-        Value::Str(text) => push_text(fields, text.as_str()),
+        Value::Bool(true) => push_bytes(fields, b"true"),
+        Value::Bool(false) => push_bytes(fields, b"false"),
+        Value::Str(text) => push_bytes(fields, text.as_str().as_bytes()),
     }
 }
 
-/// Adds a text to a record.
-fn push_text(fields: &mut ByteRecord, text: &str) -> Result<(), Memory>
+/// Adds the bytes of a text to a record.
+pub(crate) fn push_bytes(fields: &mut ByteRecord, text: &[u8]) -> Result<(), Memory>
     requires { partial_of fields.old ≡ [] }
     ensures pushed { OnOk result (fields_of fields.new ≡ fields_of fields.old ++ text.now ∷ []) }
     ensures whole { OnOk result (partial_of fields.new ≡ []) }
 {
-    match fields.push_field(text.as_bytes()) {
+    match fields.push_field(text) {
         Ok(()) => Ok(()),
         Err(_) => Err(Memory),
     }

@@ -3,13 +3,16 @@ ghost use Rattle.std.specs.Prelude.{◌≡◌, Some};
 use crate::first_form::read_packed;
 use crate::input_fault::InputFault;
 use crate::result_text::{WriteFault, write_rows};
+use crate::row_writer::{RowFault, RowWriter};
 use flow_outside::failure::Failed;
 use flow_outside::sink::Sink;
 use flow_types::field_type::FieldType;
 use flow_types::row::Row;
 use flow_types::schema::Schema;
+use flow_types::span::Span;
 use flow_types::text::Text;
 use flow_types::value::Value;
+use record_codec::check::check_bytes;
 use std::alloc::Global;
 use std::test::Fail;
 
@@ -178,6 +181,75 @@ fn writes_what_csv_writes(rt: HostRuntime) -> Result<(), Fail> {
         write_rows(alloc, rows.as_slice(), &mut out),
         Err(WriteFault::Write)
     );
+    assert_eq!(rt; out.taken.as_slice(), &want[..20]);
+    assert_eq!(rt; out.faults(), 1);
+    Ok(())
+}
+
+/// Bytes in pieces of at most `size`.
+#[derive(Clone, Copy)]
+struct Pieces<'a> {
+    bytes: &'a [u8],
+    size: usize,
+}
+
+impl<'a> Span for Pieces<'a> {
+    ghost seen = { λ p. p.bytes.now };
+
+    fn len(&self) -> usize {
+        self.bytes.len()
+    }
+
+    fn at(&self, i: usize) -> u8 {
+        self.bytes[i]
+    }
+
+    fn piece(&self, from: usize) -> &[u8] {
+        let rest = &self.bytes[from..];
+        &rest[..rest.len().min(self.size.max(1))]
+    }
+}
+
+/// Writes the lines of records, up to the first fault; `None` where one isn't a row's.
+fn write_records(
+    writer: &mut RowWriter,
+    records: &[&[u8]],
+    size: usize,
+    schema: &Schema,
+    out: &mut Paper,
+) -> Option<Result<(), RowFault>> {
+    for bytes in records {
+        let record = Pieces { bytes, size };
+        if !check_bytes(&record, schema) {
+            return None;
+        }
+        if let Err(fault) = writer.write(&record, schema, out) {
+            return Some(Err(fault));
+        }
+    }
+    Some(Ok(()))
+}
+
+#[test]
+fn records_become_the_lines_of_their_rows(rt: HostRuntime) -> Result<(), Fail> {
+    let alloc = rt.alloc();
+    let fields = [FieldType::Str(20), FieldType::Bool, FieldType::Long];
+    let schema = Schema::of(fields.to_vec(alloc)?).ok_or("no schema")?;
+    let records: [&[u8]; 2] = [
+        b"\0\x03a,b\x01\xff\xff\xff\xff\xff\xff\xff\xfd",
+        b"\0\0\0\0\0\0\0\0\0\x01\0",
+    ];
+    let want = b"\"a,b\",true,-3\n,false,256\n";
+    let mut writer = RowWriter::open(alloc)?;
+    for size in [1, 2, 20] {
+        let mut out = blank_paper(alloc, 7, 1000);
+        let answer = write_records(&mut writer, &records, size, &schema, &mut out);
+        assert_eq!(rt; answer, Some(Ok(())));
+        assert_eq!(rt; out.taken.as_slice(), want.as_slice());
+    }
+    let mut out = blank_paper(alloc, 7, 20);
+    let answer = write_records(&mut writer, &records, 2, &schema, &mut out);
+    assert_eq!(rt; answer, Some(Err(RowFault::Write)));
     assert_eq!(rt; out.taken.as_slice(), &want[..20]);
     assert_eq!(rt; out.faults(), 1);
     Ok(())
