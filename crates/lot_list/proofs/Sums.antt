@@ -1,5 +1,5 @@
 -- Sums over a list of which two elements changed.
-use Rattle.std.proofs.Common.{◌≡◌, ◌≢◌, ℕ, zero, suc, ◌+◌, ◌<◌, ◌≤◌, List, [], ◌∷◌, length, slice_index_or, refl, sym, ap, ◌∙◌, arith, sum_by}
+use Rattle.std.proofs.Common.{◌≡◌, ◌≢◌, ℕ, zero, suc, ◌+◌, ◌<◌, ◌≤◌, List, [], ◌∷◌, length, slice_index_or, refl, ap, arith, sum_by}
 use Rattle.std.proofs.lemmas.List.Sums.{sum_by-cons}
 
 module _ {X : Type 0} where
@@ -14,7 +14,7 @@ module _ {X : Type 0} where
       cc
 
   module _ (f : X → ℕ) where
-    one_sum : (xs ys : List X) (j : ℕ) (d : X) → length ys ≡ length xs → j < length xs → ((k : ℕ) (e : X) → k ≢ j → slice_index_or ys k e ≡ slice_index_or xs k e)
+    pub one_sum : (xs ys : List X) (j : ℕ) (d : X) → length ys ≡ length xs → j < length xs → ((k : ℕ) (e : X) → k ≢ j → slice_index_or ys k e ≡ slice_index_or xs k e)
         → sum_by f ys + f (slice_index_or xs j d) ≡ sum_by f xs + f (slice_index_or ys j d)
     one_sum [] ys j d long low same = absurd (omega (arith, low))
     one_sum (x ∷ xs) [] j d long low same = absurd (omega (arith, long))
@@ -36,7 +36,7 @@ module _ {X : Type 0} where
         let head : y ≡ x = same 0 x (λ is. absurd (omega (arith, is))) (λ is. absurd (omega (arith, is))) in
         omega (arith, ap f head, sum_by-cons f x xs, sum_by-cons f y ys, two_sum xs ys i j d (omega (arith, long)) (omega (arith, order)) (omega (arith, low)) (λ k e far near. same (suc k) e (λ is. far (omega (arith, is))) (λ is. near (omega (arith, is)))))
 
-    one_least : (xs : List X) (j : ℕ) (d : X) → j < length xs → f (slice_index_or xs j d) ≤ sum_by f xs
+    pub one_least : (xs : List X) (j : ℕ) (d : X) → j < length xs → f (slice_index_or xs j d) ≤ sum_by f xs
     one_least [] j d low = absurd (omega (arith, low))
     one_least (x ∷ xs) zero d low = omega (arith, sum_by-cons f x xs)
     one_least (x ∷ xs) (suc j) d low = omega (arith, sum_by-cons f x xs, one_least xs j d (omega (arith, low)))

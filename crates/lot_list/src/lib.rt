@@ -2,7 +2,10 @@
 //! that go row by row.
 //!
 //! Its one promise: lots that stand together on their disk, no block of one another's, go on standing together
-//! while rows pass from one of them to another, and each of the others holds what it held.
+//! while a row is added to one of them, rows pass from one to another, or one is emptied, and each of the others holds
+//! what it held.
 #![tactic(auto)]
 
+pub mod adding;
 pub mod between;
+pub mod dropping;

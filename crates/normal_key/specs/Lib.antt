@@ -1,0 +1,4 @@
+pub mod Fits
+pub mod Comparisons
+pub mod NormalForms
+pub mod Laws

@@ -1,0 +1,59 @@
+ghost use Rattle.std.specs.Prelude.{◌≡◌, nat_le, [], ◌∷◌, length};
+ghost use Rattle.normal_key.specs.NormalForms.{Adds, filled};
+
+use std::marker::Model;
+
+/// The first bytes of what is written, seen as their list: at most 16, and what is written behind them is
+/// let go.
+#[derive(Drop)]
+pub(crate) struct Prefix {
+    bytes: [u8; 16],
+    len: usize,
+}
+
+impl Model for Prefix {
+    ghost use Rattle.std.specs.Prelude.{◌≡◌, ◌≤◌, ℕ, List, take};
+    ghost use Rattle.normal_key.specs.NormalForms.{filled};
+
+    ghost Value = { List ℕ };
+
+    ghost view = { λ p. take p.len p.bytes };
+
+    ghost invariant = { λ p. (p.len ≤ 16) × (p.bytes ≡ filled (take p.len p.bytes)) };
+}
+
+impl Prefix {
+    /// No bytes.
+    pub(crate) fn new() -> Prefix
+        ensures { result ≡ [] }
+    {
+        Prefix {
+            bytes: [0; 16],
+            len: 0,
+        }
+    }
+
+    /// Whether there are 16, so that no more are kept.
+    pub(crate) fn is_full(&self) -> bool
+        ensures { result ≡ nat_le 16 (length self.now) }
+    {
+        self.len >= 16
+    }
+
+    /// Adds a byte, where there are fewer than 16.
+    pub(crate) fn push(&mut self, byte: u8)
+        ensures { Adds self.old self.new (byte ∷ []) }
+    {
+        if self.len < 16 {
+            self.bytes[self.len] = byte;
+            self.len += 1;
+        }
+    }
+
+    /// The bytes, filled with zero bytes up to 16.
+    pub(crate) fn into_bytes(self) -> [u8; 16]
+        ensures { result ≡ filled self }
+    {
+        self.bytes
+    }
+}
