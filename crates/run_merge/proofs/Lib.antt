@@ -1,0 +1,5 @@
+pub mod OrderLemmas
+pub mod PlaceLemmas
+pub mod BestLemmas
+pub mod MergeLemmas
+pub mod TakeLemmas

@@ -1,0 +1,134 @@
+//! Streams are advanced whose record was given.
+ghost use Rattle.std.specs.Prelude.{◌≡◌, ◌≢◌, ℕ, ◌+◌, ◌<◌, ◌≤◌, Bool, false, All, List, OnOk, length, slice_index_or, sum_by};
+ghost use Rattle.flow_outside.specs.Causes.{HasStreamCause};
+ghost use Rattle.segment_core.specs.Segments.{weigh};
+ghost use Rattle.paged_view.specs.Streams.{KnowsRows};
+ghost use Rattle.run_merge.specs.Merging.{Merges, Rows, WaitsFitting, most_of, yields};
+ghost use Rattle.run_merge.specs.declared.source.Source.{Source};
+
+use crate::source::Source;
+use flow_outside::failure::StreamFault;
+use flow_outside::spill::Spill;
+use paged_view::order::RecordOrder;
+use paged_view::stream::RecordStream;
+
+/// Advances each stream whose record was given.
+pub(crate) fn fill<D: Spill, R: RecordStream<D>, O: RecordOrder>(
+    sources: &mut [Source<R>],
+    order: &O,
+    disk: &mut D,
+) -> Result<(), StreamFault>
+    requires ready { All (λ s. R.IsReady s.stream) sources.old }
+    requires fitting { All (WaitsFitting (O.is_fit order.now) R.shown) sources.old }
+    requires known { KnowsRows (D.told disk.old) (Merges (O.cmp order.now) (yields (O.cmp order.now) (O.is_fit order.now) R.shown R.left (D.told disk.old)) sources.old) }
+    ensures ready { All (λ s. R.IsReady s.stream) sources.new }
+    ensures fitting { All (WaitsFitting (O.is_fit order.now) R.shown) sources.new }
+    ensures waits { OnOk result (All (λ s. s.given ≡ false) sources.new) }
+    ensures rows { OnOk result ((rows : Rows) →
+        Merges (O.cmp order.now) (yields (O.cmp order.now) (O.is_fit order.now) R.shown R.left (D.told disk.old)) sources.old rows →
+        Merges (O.cmp order.now) (yields (O.cmp order.now) (O.is_fit order.now) R.shown R.left (D.told disk.new)) sources.new rows) }
+    ensures later { sum_by (most_of R.shown R.most_left) sources.new ≤ sum_by (most_of R.shown R.most_left) sources.old }
+    ensures count { length sources.new ≡ length sources.old }
+    ensures segments { (h : ℕ → ℕ → ℕ) → sum_by (λ s. weigh h (R.held s.stream)) sources.new ≡ sum_by (λ s. weigh h (R.held s.stream)) sources.old }
+    ensures tells { D.told disk.new ≡ D.told disk.old }
+    ensures counted { D.given disk.new ≡ D.given disk.old }
+    ensures cause { HasStreamCause (D.fault_count disk.old) (D.fault_count disk.new) (D.told disk.old) result }
+{
+    for at in 0..sources.len() {
+        fill_at(sources, at, order, disk)?;
+    }
+    Ok(())
+}
+
+/// Advances the stream at a place, where its record was given.
+fn fill_at<D: Spill, R: RecordStream<D>, O: RecordOrder>(
+    sources: &mut [Source<R>],
+    at: usize,
+    order: &O,
+    disk: &mut D,
+) -> Result<(), StreamFault>
+    requires there { at < length sources.old }
+    requires ready { All (λ s. R.IsReady s.stream) sources.old }
+    requires fitting { All (WaitsFitting (O.is_fit order.now) R.shown) sources.old }
+    requires known { KnowsRows (D.told disk.old) (Merges (O.cmp order.now) (yields (O.cmp order.now) (O.is_fit order.now) R.shown R.left (D.told disk.old)) sources.old) }
+    ensures ready { All (λ s. R.IsReady s.stream) sources.new }
+    ensures fitting { All (WaitsFitting (O.is_fit order.now) R.shown) sources.new }
+    ensures waits { (d : Source R) → OnOk result ((slice_index_or sources.new at d).given ≡ false) }
+    ensures rows { OnOk result ((rows : Rows) →
+        Merges (O.cmp order.now) (yields (O.cmp order.now) (O.is_fit order.now) R.shown R.left (D.told disk.old)) sources.old rows →
+        Merges (O.cmp order.now) (yields (O.cmp order.now) (O.is_fit order.now) R.shown R.left (D.told disk.new)) sources.new rows) }
+    ensures later { sum_by (most_of R.shown R.most_left) sources.new ≤ sum_by (most_of R.shown R.most_left) sources.old }
+    ensures count { length sources.new ≡ length sources.old }
+    ensures same { (i : ℕ) (d : Source R) → i ≢ at → slice_index_or sources.new i d ≡ slice_index_or sources.old i d }
+    ensures segments { (h : ℕ → ℕ → ℕ) → sum_by (λ s. weigh h (R.held s.stream)) sources.new ≡ sum_by (λ s. weigh h (R.held s.stream)) sources.old }
+    ensures tells { D.told disk.new ≡ D.told disk.old }
+    ensures counted { D.given disk.new ≡ D.given disk.old }
+    ensures cause { HasStreamCause (D.fault_count disk.old) (D.fault_count disk.new) (D.told disk.old) result }
+{
+    fill_place(sources, at, order, disk)
+}
+
+/// The same, told by that stream alone.
+fn fill_place<D: Spill, R: RecordStream<D>, O: RecordOrder>(
+    sources: &mut [Source<R>],
+    at: usize,
+    order: &O,
+    disk: &mut D,
+) -> Result<(), StreamFault>
+    requires there { at < length sources.old }
+    requires ready { (d : Source R) → R.IsReady (slice_index_or sources.old at d).stream }
+    requires fitting { (d : Source R) → WaitsFitting (O.is_fit order.now) R.shown (slice_index_or sources.old at d) }
+    requires known { (d : Source R) → KnowsRows (D.told disk.old) (yields (O.cmp order.now) (O.is_fit order.now) R.shown R.left (D.told disk.old) (slice_index_or sources.old at d)) }
+    ensures ready { (d : Source R) → R.IsReady (slice_index_or sources.new at d).stream }
+    ensures fitting { (d : Source R) → WaitsFitting (O.is_fit order.now) R.shown (slice_index_or sources.new at d) }
+    ensures waits { (d : Source R) → OnOk result ((slice_index_or sources.new at d).given ≡ false) }
+    ensures rows { (d : Source R) → OnOk result ((rows : Rows) →
+        yields (O.cmp order.now) (O.is_fit order.now) R.shown R.left (D.told disk.old) (slice_index_or sources.old at d) rows →
+        yields (O.cmp order.now) (O.is_fit order.now) R.shown R.left (D.told disk.new) (slice_index_or sources.new at d) rows) }
+    ensures later { (d : Source R) → most_of R.shown R.most_left (slice_index_or sources.new at d) ≤ most_of R.shown R.most_left (slice_index_or sources.old at d) }
+    ensures count { length sources.new ≡ length sources.old }
+    ensures same { (i : ℕ) (d : Source R) → i ≢ at → slice_index_or sources.new i d ≡ slice_index_or sources.old i d }
+    ensures segments { (h : ℕ → ℕ → ℕ) (d : Source R) → weigh h (R.held (slice_index_or sources.new at d).stream) ≡ weigh h (R.held (slice_index_or sources.old at d).stream) }
+    ensures tells { D.told disk.new ≡ D.told disk.old }
+    ensures counted { D.given disk.new ≡ D.given disk.old }
+    ensures cause { HasStreamCause (D.fault_count disk.old) (D.fault_count disk.new) (D.told disk.old) result }
+{
+    fill_one(&mut sources[at], order, disk)
+}
+
+/// Advances one stream where its record was given, and tests the record that it shows then.
+fn fill_one<D: Spill, R: RecordStream<D>, O: RecordOrder>(
+    source: &mut Source<R>,
+    order: &O,
+    disk: &mut D,
+) -> Result<(), StreamFault>
+    requires ready { R.IsReady source.old.stream }
+    requires fitting { WaitsFitting (O.is_fit order.now) R.shown source.old }
+    requires known { KnowsRows (D.told disk.old) (yields (O.cmp order.now) (O.is_fit order.now) R.shown R.left (D.told disk.old) source.old) }
+    ensures ready { R.IsReady source.new.stream }
+    ensures fitting { WaitsFitting (O.is_fit order.now) R.shown source.new }
+    ensures waits { OnOk result (source.new.given ≡ false) }
+    ensures rows { OnOk result ((rows : Rows) →
+        yields (O.cmp order.now) (O.is_fit order.now) R.shown R.left (D.told disk.old) source.old rows →
+        yields (O.cmp order.now) (O.is_fit order.now) R.shown R.left (D.told disk.new) source.new rows) }
+    ensures later { most_of R.shown R.most_left source.new ≤ most_of R.shown R.most_left source.old }
+    ensures segments { (h : ℕ → ℕ → ℕ) → weigh h (R.held source.new.stream) ≡ weigh h (R.held source.old.stream) }
+    ensures tells { D.told disk.new ≡ D.told disk.old }
+    ensures counted { D.given disk.new ≡ D.given disk.old }
+    ensures cause { HasStreamCause (D.fault_count disk.old) (D.fault_count disk.new) (D.told disk.old) result }
+{
+    if !source.given {
+        return Ok(());
+    }
+    if source.stream.advance(disk)? {
+        if let Some(row) = source.stream.head() {
+            if !order.fits(&row) {
+                return Err(StreamFault::Damaged {
+                    block: source.stream.block(),
+                });
+            }
+        }
+    }
+    source.given = false;
+    Ok(())
+}

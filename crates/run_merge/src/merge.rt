@@ -1,0 +1,85 @@
+ghost use Rattle.std.specs.Prelude.{◌≡◌, None};
+
+use crate::streams::Streams;
+use flow_outside::failure::StreamFault;
+use flow_outside::spill::Spill;
+use paged_view::order::RecordOrder;
+use paged_view::record_ref::RecordRef;
+use paged_view::stream::RecordStream;
+use std::marker::Model;
+
+/// Streams as one, by an order. It may not be let go: `end` gives the streams back.
+///
+/// The first record costs an `advance` of each stream, each further one an `advance` of the stream that gave the one
+/// before; each costs a test of the record that it reads and a comparison with each stream's, at the place where they
+/// lie. No call takes memory, and no record is copied.
+pub struct Merge<'a, R, O> {
+    streams: Streams<R>,
+    order: &'a O,
+    shown: Option<usize>,
+}
+
+impl<'a, R, O> Model for Merge<'a, R, O> {
+    ghost use Rattle.run_merge.specs.Collected.{Merging};
+
+    ghost Value = { Merging R O };
+
+    ghost view = { λ m. record { room = m.streams.room; sources = m.streams.sources; order = m.order.now; shown = m.shown } };
+}
+
+impl<'a, R, O> Merge<'a, R, O> {
+    /// Of each stream it gives what the stream has left. Nothing is read yet.
+    pub fn new(streams: Streams<R>, order: &'a O) -> Merge<'a, R, O>
+        ensures { result ≡ record { room = streams.room; sources = streams.sources; order = order.now; shown = None } }
+    {
+        Merge {
+            streams,
+            order,
+            shown: None,
+        }
+    }
+
+    /// The streams, as they are.
+    pub fn end(self) -> Streams<R>
+        ensures { result ≡ record { room = self.entry.room; sources = self.entry.sources } }
+    {
+        let Merge {
+            streams,
+            order: _,
+            shown: _,
+        } = self;
+        streams
+    }
+}
+
+impl<D: Spill, R: RecordStream<D>, O: RecordOrder> RecordStream<D> for Merge<'_, R, O> {
+    ghost use Rattle.std.specs.Prelude.{All, sum_by};
+    ghost use Rattle.std.specs.List.{flat_map};
+    ghost use Rattle.run_merge.specs.Merging.{Merges, WaitsFitting, most_of, number_at, shown_at, yields};
+
+    ghost left = { λ m told rows. Merges (O.cmp m.order) (yields (O.cmp m.order) (O.is_fit m.order) R.shown R.left told) m.sources rows };
+
+    ghost IsReady = { λ m. All (λ s. R.IsReady s.stream) m.sources × All (WaitsFitting (O.is_fit m.order) R.shown) m.sources };
+
+    ghost shown = { λ m. shown_at R.shown m.sources m.shown };
+
+    ghost block_read = { λ m. number_at R.block_read m.sources m.shown };
+
+    ghost most_left = { λ m. sum_by (most_of R.shown R.most_left) m.sources };
+
+    ghost held = { λ m. flat_map (λ s. R.held s.stream) m.sources };
+
+    fn advance(&mut self, disk: &mut D) -> Result<bool, StreamFault> {
+        self.shown = None;
+        self.shown = self.streams.take_least(self.order, disk)?;
+        Ok(self.shown.is_some())
+    }
+
+    fn head(&self) -> Option<RecordRef<'_>> {
+        self.streams.head_at::<D>(self.shown)
+    }
+
+    fn block(&self) -> u64 {
+        self.streams.block_at::<D>(self.shown)
+    }
+}
