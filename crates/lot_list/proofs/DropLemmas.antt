@@ -2,8 +2,8 @@
 use Rattle.std.proofs.Common.{Result, Ok, Err, MatchResult, OnOk, ◌≡◌, ◌≢◌, inl, inr, ℕ, ◌+◌, ◌<◌, ◌≤◌, List, [], ◌∷◌, length, Option, None, refl, sym, ap, ◌∙◌, subst, arith}
 use Rattle.std.proofs.lemmas.Bool.{cases_eq}
 use Rattle.std.proofs.lemmas.List.Sums.{sum_by-cons}
-use Rattle.segment_core.specs.Segments.{Held, Page, weigh}
-use Rattle.segment_core.proofs.Weighing.{weigh-ones}
+use Rattle.segment_core.specs.Segments.{PurseView, SegmentView, segment_sum}
+use Rattle.segment_core.proofs.Weighing.{segment_sum-ones}
 use Rattle.flow_outside.specs.Blocks.{Blocks, BothTold}
 use Rattle.flow_outside.specs.Causes.{HasStreamCause, Rose}
 use Rattle.flow_outside.specs.declared.failure.StreamFault.{StreamFault}
@@ -13,25 +13,25 @@ use Rattle.lot_store.specs.Spilling.{FreesBlocks, OwnsBlock}
 use Rattle.lot_store.proofs.SpillLemmas.{told_both, told_join}
 use Rattle.row_pipe.proofs.Telling.{told_after, told_map}
 use Rattle.row_pipe.proofs.Turning.{cause_later}
-use Rattle.lot_list.specs.Together.{AreTogether, FreesFirst, IsNoLots, LeavesTheRest, LivesIn, NoneLives, OthersOwn, StandTogether, StayTogether, held_count, lot_at, weigh_held}
+use Rattle.lot_list.specs.Together.{AreTogether, FreesFirst, IsNoLots, LeavesTheRest, LivesIn, NoneLives, OthersOwn, StandTogether, StayTogether, held_count, lot_at, held_sum}
 use Rattle.lot_list.proofs.Keeping.{told_all}
 
 -- The purse has what the lot held.
-pub grows_by : (a b : LotView) (p q : List Page) → held b ≡ [] → MovesSegments a b p q → length p ≤ length q
+pub grows_by : (a b : LotView) (p q : List SegmentView) → held b ≡ [] → MovesSegments a b p q → length p ≤ length q
 grows_by a b p q empty moves =
-    omega (arith, moves (λ _ _. 1), weigh-ones p, weigh-ones q, weigh-ones (held a), ap (weigh (λ _ _. 1)) empty)
+    omega (arith, moves (λ _ _. 1), segment_sum-ones p, segment_sum-ones q, segment_sum-ones (held a), ap (segment_sum (λ _ _. 1)) empty)
 
-held_ones : (lots : List LotView) → weigh_held (λ _ _. 1) lots ≡ held_count lots
+held_ones : (lots : List LotView) → held_sum (λ _ _. 1) lots ≡ held_count lots
 held_ones [] = refl
 held_ones (lot ∷ lots) =
-    omega (arith, held_ones lots, weigh-ones (held lot), sum_by-cons (λ (l : LotView). weigh (λ _ _. 1) (held l)) lot lots, sum_by-cons (λ (l : LotView). length (held l)) lot lots)
+    omega (arith, held_ones lots, segment_sum-ones (held lot), sum_by-cons (λ (l : LotView). segment_sum (λ _ _. 1) (held l)) lot lots, sum_by-cons (λ (l : LotView). length (held l)) lot lots)
 
-pub room_on : (lots lots_now : List LotView) (p q : Held) → ((h : ℕ → ℕ → ℕ) → weigh h q.pages + weigh_held h lots_now ≡ weigh h p.pages + weigh_held h lots) → q.room ≡ p.room
+pub room_on : (lots lots_now : List LotView) (p q : PurseView) → ((h : ℕ → ℕ → ℕ) → segment_sum h q.pages + held_sum h lots_now ≡ segment_sum h p.pages + held_sum h lots) → q.room ≡ p.room
     → length p.pages + held_count lots ≤ p.room → length q.pages + held_count lots_now ≤ q.room
 room_on lots lots_now p q segments same room =
-    omega (arith, segments (λ _ _. 1), weigh-ones p.pages, weigh-ones q.pages, held_ones lots, held_ones lots_now, same, room)
+    omega (arith, segments (λ _ _. 1), segment_sum-ones p.pages, segment_sum-ones q.pages, held_ones lots, held_ones lots_now, same, room)
 
-pub together_on : (t u : Option Blocks) (lots lots_now : List LotView) (p q : List Page) → BothTold t u (StayTogether lots lots_now p q) → AreTogether t lots p → AreTogether u lots_now q
+pub together_on : (t u : Option Blocks) (lots lots_now : List LotView) (p q : List SegmentView) → BothTold t u (StayTogether lots lots_now p q) → AreTogether t lots p → AreTogether u lots_now q
 together_on t u lots lots_now p q stay together =
     told_after t u (λ m. (size : ℕ) × StandTogether size lots p m) (λ m. (size : ℕ) × StandTogether size lots_now q m) (StayTogether lots lots_now p q)
     (λ m n at stays. (at.0, stays at.0 at.1)) together stay
@@ -67,13 +67,13 @@ empty_more lots lots_now at same before now i d low = elim (cases_eq i at) [
     ]
 
 -- The lots from this place on still have the blocks that they had at first.
-abbrev pub OwnsYet : (lots : List LotView) (at : ℕ) (purse : List Page) (old new : Blocks) → Type 0
+abbrev pub OwnsYet : (lots : List LotView) (at : ℕ) (purse : List SegmentView) (old new : Blocks) → Type 0
 OwnsYet lots at purse old new =
     (size : ℕ) → StandTogether size lots purse old
     → (i : ℕ) (d : LotView) → at ≤ i → i < length lots → (block : ℕ) → OwnsBlock old (lot_at lots i d).stored.run block → OwnsBlock new (lot_at lots i d).stored.run block
 
 -- One lot was emptied: the lots were `first` at the beginning, `lots` before it and `next` after it.
-module _ (first lots next : List LotView) (at : ℕ) (p0 p q : List Page) (low : at < length first) (count : length lots ≡ length first)
+module _ (first lots next : List LotView) (at : ℕ) (p0 p q : List SegmentView) (low : at < length first) (count : length lots ≡ length first)
     (yet : (i : ℕ) (d : LotView) → at ≤ i → lot_at lots i d ≡ lot_at first i d) (same : (i : ℕ) (d : LotView) → i ≢ at → lot_at next i d ≡ lot_at lots i d) where
   pub yet_more : (i : ℕ) (d : LotView) → at + 1 ≤ i → lot_at next i d ≡ lot_at first i d
   yet_more i d past = same i d (λ is. absurd (omega (arith, past, is))) ∙ yet i d (omega (arith, past))
@@ -119,12 +119,12 @@ module _ (first lots next : List LotView) (at : ℕ) (p0 p q : List Page) (low :
       (told_all u v (λ d. FreesBlocks (lot_at lots at d).stored.run) (λ m n. (d : LotView) → FreesBlocks (lot_at lots at d).stored.run m n) e (λ m n h. h) freed) fresh))
 
 -- what stays together in two steps
-pub stay_on : (t u v : Option Blocks) (a b c : List LotView) (p q r : List Page) → BothTold t u (StayTogether a b p q) → BothTold u v (StayTogether b c q r) → BothTold t v (StayTogether a c p r)
+pub stay_on : (t u v : Option Blocks) (a b c : List LotView) (p q r : List SegmentView) → BothTold t u (StayTogether a b p q) → BothTold u v (StayTogether b c q r) → BothTold t v (StayTogether a c p r)
 stay_on t u v a b c p q r one two =
     told_join t u v (StayTogether a b p q) (StayTogether b c q r) (StayTogether a c p r) (λ k m n f g size together. g size (f size together)) one two
 
 -- what is nobody's stays in two steps
-pub others_on : (t u v : Option Blocks) (a b c : List LotView) (p q : List Page) → BothTold t u (StayTogether a b p q) → BothTold t u (LeavesTheRest a b p) → BothTold u v (LeavesTheRest b c q) → BothTold t v (LeavesTheRest a c p)
+pub others_on : (t u v : Option Blocks) (a b c : List LotView) (p q : List SegmentView) → BothTold t u (StayTogether a b p q) → BothTold t u (LeavesTheRest a b p) → BothTold u v (LeavesTheRest b c q) → BothTold t v (LeavesTheRest a c p)
 others_on t u v a b c p q stay one two =
     told_join t u v (λ k m. StayTogether a b p q k m × LeavesTheRest a b p k m) (LeavesTheRest b c q) (LeavesTheRest a c p) both_steps (told_both t u (StayTogether a b p q) (LeavesTheRest a b p) stay one) two
   where
@@ -145,7 +145,7 @@ fresh_on t u v next at e none before now = told_join t u v NoneLives (LivesIn ne
     ]
 
 -- all were emptied
-pub freed_all : (t u : Option Blocks) (answer : Result Unit StreamFault) (lots : List LotView) (at : ℕ) (p : List Page) → length lots ≤ at
+pub freed_all : (t u : Option Blocks) (answer : Result Unit StreamFault) (lots : List LotView) (at : ℕ) (p : List SegmentView) → length lots ≤ at
     → OnOk answer (BothTold t u (FreesFirst lots at p)) → OnOk answer (BothTold t u (FreesFirst lots (length lots) p))
 freed_all t u (Err fault) lots at p end freed = tt
 freed_all t u (Ok done) lots at p end freed =

@@ -1,7 +1,7 @@
 -- Lots stand together after rows went from one to another.
 use Rattle.std.proofs.Common.{◌≡◌, ◌≢◌, ◌⊎◌, inl, inr, ℕ, ◌+◌, ◌<◌, ◌≤◌, List, [], ◌∷◌, length, Option, Some, None, refl, sym, ap, ◌∙◌, subst, arith}
 use Rattle.std.proofs.lemmas.Bool.{cases_eq}
-use Rattle.segment_core.specs.Segments.{Held, Page, misfits, weigh}
+use Rattle.segment_core.specs.Segments.{PurseView, SegmentView, count_other_size, segment_sum}
 use Rattle.flow_outside.specs.Blocks.{Blocks, BothTold, IsLive}
 use Rattle.flow_outside.specs.Told.{IfTold}
 use Rattle.flow_types.specs.Types.{Fields}
@@ -12,8 +12,8 @@ use Rattle.spool.proofs.PushLemmas.{writer_stays}
 use Rattle.lot_store.specs.Laws.{AreApart, IsOther}
 use Rattle.lot_store.specs.LotKeeping.{Keeps, KeepsOthers, MovesSegments}
 use Rattle.lot_store.specs.Lots.{HoldsRows, LotView, StandsWith, held, pages_of}
-use Rattle.lot_store.specs.Spilling.{IsSpilled, LeavesOthers, OwnsBlock, OwnsWhatLives}
-use Rattle.lot_store.specs.Stores.{Stored}
+use Rattle.lot_store.specs.Spilling.{IsSpilled, ForeignBlocksUnchanged, OwnsBlock, NoOrphanBlocks}
+use Rattle.lot_store.specs.Stores.{PagesView}
 use Rattle.lot_store.proofs.LawLemmas.{other_lot}
 use Rattle.row_pipe.specs.Pipes.{HasPlaces, Passes, StandBeside, StaysBeside, StaysWhole}
 use Rattle.row_pipe.specs.declared.work.Work.{Work}
@@ -22,7 +22,7 @@ use Rattle.lot_list.specs.Together.{ChangesOne, HavePlace, LeavesTheRest, LivesI
 use Rattle.lot_list.proofs.Sums.{one_sum, two_least, two_sum}
 
 -- A run that stands apart from what was written has the blocks that it had.
-owns_back : (m n : Blocks) (mine now : Option RunWriter) (size : ℕ) (run : Option RunWriter) → LeavesOthers mine now m n → IsSpilled m size run → AreApart m mine run
+owns_back : (m n : Blocks) (mine now : Option RunWriter) (size : ℕ) (run : Option RunWriter) → ForeignBlocksUnchanged mine now m n → IsSpilled m size run → AreApart m mine run
     → (block : ℕ) → OwnsBlock n run block → OwnsBlock m run block
 owns_back m n mine now size None leaves stands apart block own = own
 owns_back m n mine now size (Some writer) leaves stands apart block own =
@@ -37,7 +37,7 @@ told_all (Some m) None P Q e f h = h e
 told_all (Some m) (Some n) P Q e f h = f m n h
 
 -- A run that stands apart from what was written still has its blocks.
-owns_on : (m n : Blocks) (mine now : Option RunWriter) (size : ℕ) (run : Option RunWriter) → LeavesOthers mine now m n → IsSpilled m size run → AreApart m mine run
+owns_on : (m n : Blocks) (mine now : Option RunWriter) (size : ℕ) (run : Option RunWriter) → ForeignBlocksUnchanged mine now m n → IsSpilled m size run → AreApart m mine run
     → (block : ℕ) → OwnsBlock m run block → OwnsBlock n run block
 owns_on m n mine now size None leaves stands apart block own = own
 owns_on m n mine now size (Some writer) leaves stands apart block own =
@@ -45,9 +45,9 @@ owns_on m n mine now size (Some writer) leaves stands apart block own =
     (kept.blocks block).1 own
 
 -- One lot was written, and the others have the runs that they had.
-module _ (m n : Blocks) (lots lots_now : List LotView) (to : ℕ) (p : List Page) (low : to < length lots) (d : LotView)
+module _ (m n : Blocks) (lots lots_now : List LotView) (to : ℕ) (p : List SegmentView) (low : to < length lots) (d : LotView)
     (run_same : (i : ℕ) → i ≢ to → (lot_at lots_now i d).stored.run ≡ (lot_at lots i d).stored.run)
-    (leaves : LeavesOthers (lot_at lots to d).stored.run (lot_at lots_now to d).stored.run m n)
+    (leaves : ForeignBlocksUnchanged (lot_at lots to d).stored.run (lot_at lots_now to d).stored.run m n)
     (size : ℕ) (together : StandTogether size lots p m) where
   other : (i : ℕ) → i < length lots → i ≢ to → IsOther size (lot_at lots_now to d).stored.run (lot_at lots i d) m n
   other i inside far =
@@ -60,7 +60,7 @@ module _ (m n : Blocks) (lots lots_now : List LotView) (to : ℕ) (p : List Page
       owns_back m n (lot_at lots to d).stored.run (lot_at lots_now to d).stored.run size (lot_at lots i d).stored.run leaves stands.spilled (together.apart to i d low inside (λ is. far (sym is))) block
       (subst (λ r. OwnsBlock n r block) (run_same i far) own)
 
-  third : (q : List Page) → misfits size q ≡ 0 → (i : ℕ) → i < length lots → i ≢ to → lot_at lots_now i d ≡ lot_at lots i d → StandsWith size (lot_at lots_now i d) q n
+  third : (q : List SegmentView) → count_other_size size q ≡ 0 → (i : ℕ) → i < length lots → i ≢ to → lot_at lots_now i d ≡ lot_at lots i d → StandsWith size (lot_at lots_now i d) q n
   third q sized i inside far same =
       let rest = other i inside far in
       subst (λ lot. StandsWith size lot q n) (sym same) (record {
@@ -95,11 +95,11 @@ module _ (m n : Blocks) (lots lots_now : List LotView) (to : ℕ) (p : List Page
       )
 
 -- One lot was read besides.
-module _ (m n : Blocks) (lots lots_now : List LotView) (from to : ℕ) (p q : List Page) (order : from < to) (low : to < length lots)
+module _ (m n : Blocks) (lots lots_now : List LotView) (from to : ℕ) (p q : List SegmentView) (order : from < to) (low : to < length lots)
     (same : (i : ℕ) (d : LotView) → i ≢ from → i ≢ to → lot_at lots_now i d ≡ lot_at lots i d) (d : LotView)
     (pages : pages_of (lot_at lots_now from d) ≡ pages_of (lot_at lots from d))
     (beside : StaysBeside (lot_at lots from d) (lot_at lots_now from d) (lot_at lots to d) (lot_at lots_now to d) p q m n)
-    (leaves : LeavesOthers (lot_at lots to d).stored.run (lot_at lots_now to d).stored.run m n)
+    (leaves : ForeignBlocksUnchanged (lot_at lots to d).stored.run (lot_at lots_now to d).stored.run m n)
     (size : ℕ) (together : StandTogether size lots p m) where
   both : StandBeside size (lot_at lots from d) (lot_at lots to d) p m
   both = record {
@@ -113,7 +113,7 @@ module _ (m n : Blocks) (lots lots_now : List LotView) (from to : ℕ) (p q : Li
 
   runs : (i : ℕ) → i ≢ to → (lot_at lots_now i d).stored.run ≡ (lot_at lots i d).stored.run
   runs i far = elim (cases_eq i from) [
-    | inl is ↦ subst (λ k. (lot_at lots_now k d).stored.run ≡ (lot_at lots k d).stored.run) (sym is) (ap (λ (s : Stored). s.run) pages)
+    | inl is ↦ subst (λ k. (lot_at lots_now k d).stored.run ≡ (lot_at lots k d).stored.run) (sym is) (ap (λ (s : PagesView). s.run) pages)
     | inr near ↦ ap (λ (lot : LotView). lot.stored.run) (same i d near far)
   ]
 
@@ -144,11 +144,11 @@ pub first_of : (lots : List LotView) (to : ℕ) → to < length lots → LotView
 first_of [] to low = absurd (omega (arith, low))
 first_of (lot ∷ lots) to low = lot
 
-stay_told : (t u : Option Blocks) (lots lots_now : List LotView) (from to : ℕ) (p q : List Page) → from < to → to < length lots → length lots_now ≡ length lots
+stay_told : (t u : Option Blocks) (lots lots_now : List LotView) (from to : ℕ) (p q : List SegmentView) → from < to → to < length lots → length lots_now ≡ length lots
     → ((i : ℕ) (d : LotView) → i ≢ from → i ≢ to → lot_at lots_now i d ≡ lot_at lots i d)
     → ((d : LotView) → pages_of (lot_at lots_now from d) ≡ pages_of (lot_at lots from d))
     → ((d : LotView) → BothTold t u (StaysBeside (lot_at lots from d) (lot_at lots_now from d) (lot_at lots to d) (lot_at lots_now to d) p q))
-    → ((d : LotView) → BothTold t u (LeavesOthers (lot_at lots to d).stored.run (lot_at lots_now to d).stored.run))
+    → ((d : LotView) → BothTold t u (ForeignBlocksUnchanged (lot_at lots to d).stored.run (lot_at lots_now to d).stored.run))
     → BothTold t u (StayTogether lots lots_now p q)
 stay_told None None lots lots_now from to p q order low count same pages beside leaves = tt
 stay_told None (Some n) lots lots_now from to p q order low count same pages beside leaves = beside (first_of lots to low)
@@ -158,11 +158,11 @@ stay_told (Some m) (Some n) lots lots_now from to p q order low count same pages
   apart = λ i j d inside_i inside_j differ. apart_read m n lots lots_now from to p q order low same d (pages d) (beside d) (leaves d) size together i j (omega (arith, inside_i, count)) (omega (arith, inside_j, count)) differ;
 }
 
-whole_told : (t u : Option Blocks) (lots lots_now : List LotView) (from to : ℕ) (p q : List Page) → from < to → to < length lots
+whole_told : (t u : Option Blocks) (lots lots_now : List LotView) (from to : ℕ) (p q : List SegmentView) → from < to → to < length lots
     → ((i : ℕ) (d : LotView) → i ≢ from → i ≢ to → lot_at lots_now i d ≡ lot_at lots i d)
     → ((d : LotView) → pages_of (lot_at lots_now from d) ≡ pages_of (lot_at lots from d))
     → ((d : LotView) → BothTold t u (StaysBeside (lot_at lots from d) (lot_at lots_now from d) (lot_at lots to d) (lot_at lots_now to d) p q))
-    → ((d : LotView) → BothTold t u (LeavesOthers (lot_at lots to d).stored.run (lot_at lots_now to d).stored.run))
+    → ((d : LotView) → BothTold t u (ForeignBlocksUnchanged (lot_at lots to d).stored.run (lot_at lots_now to d).stored.run))
     → ((d : LotView) → BothTold t u (StaysWhole (lot_at lots from d) (lot_at lots_now from d) (lot_at lots to d) p))
     → BothTold t u (OthersStayWhole lots lots_now to p)
 whole_told None None lots lots_now from to p q order low same pages beside leaves whole = tt
@@ -171,11 +171,11 @@ whole_told (Some m) None lots lots_now from to p q order low same pages beside l
 whole_told (Some m) (Some n) lots lots_now from to p q order low same pages beside leaves whole = λ size together i d inside far.
     whole_read m n lots lots_now from to p q order low same d (pages d) (beside d) (leaves d) size together (whole d) i inside far
 
-rest_told : (t u : Option Blocks) (lots lots_now : List LotView) (from to : ℕ) (p q : List Page) → from < to → to < length lots → length lots_now ≡ length lots
+rest_told : (t u : Option Blocks) (lots lots_now : List LotView) (from to : ℕ) (p q : List SegmentView) → from < to → to < length lots → length lots_now ≡ length lots
     → ((i : ℕ) (d : LotView) → i ≢ from → i ≢ to → lot_at lots_now i d ≡ lot_at lots i d)
     → ((d : LotView) → pages_of (lot_at lots_now from d) ≡ pages_of (lot_at lots from d))
     → ((d : LotView) → BothTold t u (StaysBeside (lot_at lots from d) (lot_at lots_now from d) (lot_at lots to d) (lot_at lots_now to d) p q))
-    → ((d : LotView) → BothTold t u (LeavesOthers (lot_at lots to d).stored.run (lot_at lots_now to d).stored.run))
+    → ((d : LotView) → BothTold t u (ForeignBlocksUnchanged (lot_at lots to d).stored.run (lot_at lots_now to d).stored.run))
     → BothTold t u (LeavesTheRest lots lots_now p)
 rest_told None None lots lots_now from to p q order low count same pages beside leaves = tt
 rest_told None (Some n) lots lots_now from to p q order low count same pages beside leaves = beside (first_of lots to low)
@@ -198,7 +198,7 @@ for_each lots lots_now from to P itself same d read written i = elim (cases_eq i
 ]
 
 -- So it is with what a pipe between two lots of the list keeps.
-pub passes_among : (t u : Option Blocks) (lots lots_now : List LotView) (from to : ℕ) (p q : Held) → from < to → to < length lots → length lots_now ≡ length lots
+pub passes_among : (t u : Option Blocks) (lots lots_now : List LotView) (from to : ℕ) (p q : PurseView) → from < to → to < length lots → length lots_now ≡ length lots
     → ((i : ℕ) (d : LotView) → i ≢ from → i ≢ to → lot_at lots_now i d ≡ lot_at lots i d)
     → ((d : LotView) → Passes t u (lot_at lots from d) (lot_at lots_now from d) (lot_at lots to d) (lot_at lots_now to d) p q)
     → PassesAmong t u lots lots_now from to p q
@@ -209,21 +209,21 @@ passes_among t u lots lots_now from to p q order low count same passes = record 
   whole = whole_told t u lots lots_now from to p.pages q.pages order low same (λ d. (passes d).pages) (λ d. (passes d).beside) (λ d. (passes d).others) (λ d. (passes d).whole);
   others = rest_told t u lots lots_now from to p.pages q.pages order low count same (λ d. (passes d).pages) (λ d. (passes d).beside) (λ d. (passes d).others);
   fresh = told_all t u (λ d old new. (block : ℕ) → old block ≡ None → (new block ≡ None) ⊎ OwnsBlock new (lot_at lots_now to d).stored.run block) (LivesIn lots_now to) (first_of lots to low) (λ m n h block d none. h d block none)
-      (λ d. told_map t u (OwnsWhatLives (lot_at lots to d).stored.run (lot_at lots_now to d).stored.run) (λ old new. (block : ℕ) → old block ≡ None → (new block ≡ None) ⊎ OwnsBlock new (lot_at lots_now to d).stored.run block) (λ m n owns block none. owns block (inl none)) (passes d).owns);
-  room = λ i d. for_each lots lots_now from to (λ a b. b.stored.room ≡ a.stored.room) (λ lot. refl) same d (ap (λ (s : Stored). s.room) (passes d).pages) (passes d).out_room i;
+      (λ d. told_map t u (NoOrphanBlocks (lot_at lots to d).stored.run (lot_at lots_now to d).stored.run) (λ old new. (block : ℕ) → old block ≡ None → (new block ≡ None) ⊎ OwnsBlock new (lot_at lots_now to d).stored.run block) (λ m n owns block none. owns block (inl none)) (passes d).owns);
+  room = λ i d. for_each lots lots_now from to (λ a b. b.stored.room ≡ a.stored.room) (λ lot. refl) same d (ap (λ (s : PagesView). s.room) (passes d).pages) (passes d).out_room i;
   reach = λ i d. for_each lots lots_now from to (λ a b. b.feed.reach ≡ a.feed.reach) (λ lot. refl) same d (passes d).input_reach (passes d).out_reach i;
   segments = λ h.
-      omega (arith, (passes (first_of lots to low)).segments h, two_sum (λ (lot : LotView). weigh h (held lot)) lots lots_now from to (first_of lots to low) count order low same);
+      omega (arith, (passes (first_of lots to low)).segments h, two_sum (λ (lot : LotView). segment_sum h (held lot)) lots lots_now from to (first_of lots to low) count order low same);
   purse_room = (passes (first_of lots to low)).purse_room;
 }
 
 -- There is room for the segments of two lots where there is for those of all.
-pub room_of_two : (lots : List LotView) (from to : ℕ) (d : LotView) (p : Held) → from < to → to < length lots → length p.pages + held_count lots ≤ p.room
+pub room_of_two : (lots : List LotView) (from to : ℕ) (d : LotView) (p : PurseView) → from < to → to < length lots → length p.pages + held_count lots ≤ p.room
     → length p.pages + (length (held (lot_at lots from d)) + length (held (lot_at lots to d))) ≤ p.room
 room_of_two lots from to d p order low room = omega (arith, room, two_least (λ (lot : LotView). length (held lot)) lots from to d order low)
 
 -- Two lots of those that stand together stand beside each other.
-pub places_of_two : (t : Option Blocks) (fields : Fields) (w : Work) (lots : List LotView) (from to : ℕ) (d : LotView) (p : List Page) → from < to → to < length lots
+pub places_of_two : (t : Option Blocks) (fields : Fields) (w : Work) (lots : List LotView) (from to : ℕ) (d : LotView) (p : List SegmentView) → from < to → to < length lots
     → IfTold t (HavePlace fields w lots to p) → IfTold t (HasPlaces fields w (lot_at lots from d) (lot_at lots to d) p)
 places_of_two t fields w lots from to d p order low place =
     told_weaker t (HavePlace fields w lots to p) (HasPlaces fields w (lot_at lots from d) (lot_at lots to d) p)
@@ -238,7 +238,7 @@ places_of_two t fields w lots from to d p order low place =
     }) place
 
 -- One lot was changed, and no other.
-module _ (lots lots_now : List LotView) (at : ℕ) (p q : List Page) (low : at < length lots) (count : length lots_now ≡ length lots)
+module _ (lots lots_now : List LotView) (at : ℕ) (p q : List SegmentView) (low : at < length lots) (count : length lots_now ≡ length lots)
     (same : (i : ℕ) (d : LotView) → i ≢ at → lot_at lots_now i d ≡ lot_at lots i d) where
   still : (d : LotView) (i : ℕ) → i ≢ at → (lot_at lots_now i d).stored.run ≡ (lot_at lots i d).stored.run
   still d i far = ap (λ (lot : LotView). lot.stored.run) (same i d far)
@@ -272,7 +272,7 @@ module _ (lots lots_now : List LotView) (at : ℕ) (p q : List Page) (low : at <
     λ i d inside own. (rest_now m n lots lots_now at p low d (still d) (keeps d).others size together block live (λ k inside_k own_k. none k d inside_k own_k)).1 i (omega (arith, inside, count)) own,
   )
 
-pub changes_one : (t u : Option Blocks) (lots lots_now : List LotView) (at : ℕ) (p q : Held) → at < length lots → length lots_now ≡ length lots
+pub changes_one : (t u : Option Blocks) (lots lots_now : List LotView) (at : ℕ) (p q : PurseView) → at < length lots → length lots_now ≡ length lots
     → ((i : ℕ) (d : LotView) → i ≢ at → lot_at lots_now i d ≡ lot_at lots i d)
     → ((d : LotView) → BothTold t u (KeepsOthers (lot_at lots at d) (lot_at lots_now at d) p.pages q.pages))
     → ((d : LotView) → MovesSegments (lot_at lots at d) (lot_at lots_now at d) p.pages q.pages) → q.room ≡ p.room → ChangesOne t u lots lots_now at p q
@@ -285,12 +285,12 @@ changes_one t u lots lots_now at p q low count same keeps moves room = record {
       (λ d. told_map t u (KeepsOthers (lot_at lots at d) (lot_at lots_now at d) p.pages q.pages) (λ old new. (block : ℕ) → old block ≡ None → (new block ≡ None) ⊎ OwnsBlock new (lot_at lots_now at d).stored.run block) (λ m n k. k.fresh) (keeps d));
   others = rest_one lots lots_now at p.pages q.pages low count same t u keeps;
   segments = λ h.
-      omega (arith, moves (first_of lots at low) h, one_sum (λ (lot : LotView). weigh h (held lot)) lots lots_now at (first_of lots at low) count low same);
+      omega (arith, moves (first_of lots at low) h, one_sum (λ (lot : LotView). segment_sum h (held lot)) lots lots_now at (first_of lots at low) count low same);
   purse_room = room;
 }
 
 -- A lot that keeps its blocks changes one.
-pub writes_one : (t u : Option Blocks) (lots lots_now : List LotView) (at : ℕ) (p q : Held) → at < length lots → length lots_now ≡ length lots
+pub writes_one : (t u : Option Blocks) (lots lots_now : List LotView) (at : ℕ) (p q : PurseView) → at < length lots → length lots_now ≡ length lots
     → ((i : ℕ) (d : LotView) → i ≢ at → lot_at lots_now i d ≡ lot_at lots i d)
     → ((d : LotView) → BothTold t u (Keeps (lot_at lots at d) (lot_at lots_now at d) p.pages q.pages))
     → ((d : LotView) → MovesSegments (lot_at lots at d) (lot_at lots_now at d) p.pages q.pages) → q.room ≡ p.room → ChangesOne t u lots lots_now at p q
@@ -301,12 +301,12 @@ writes_one t u lots lots_now at p q low count same keeps moves room =
     moves room
 
 -- A lot that wasn't changed still has its blocks.
-still_owns : (m n : Blocks) (lots lots_now : List LotView) (at : ℕ) (p q : List Page) (d : LotView) → at < length lots → KeepsOthers (lot_at lots at d) (lot_at lots_now at d) p q m n → (size : ℕ) → StandTogether size lots p m
+still_owns : (m n : Blocks) (lots lots_now : List LotView) (at : ℕ) (p q : List SegmentView) (d : LotView) → at < length lots → KeepsOthers (lot_at lots at d) (lot_at lots_now at d) p q m n → (size : ℕ) → StandTogether size lots p m
     → (i : ℕ) → i < length lots → i ≢ at → (block : ℕ) → OwnsBlock m (lot_at lots i d).stored.run block → OwnsBlock n (lot_at lots i d).stored.run block
 still_owns m n lots lots_now at p q d low keeps size together i inside far block own =
     owns_on m n (lot_at lots at d).stored.run (lot_at lots_now at d).stored.run size (lot_at lots i d).stored.run keeps.others (together.each i d inside).spilled (together.apart at i d low inside (λ is. far (sym is))) block own
 
-pub owns_told : (t u : Option Blocks) (lots lots_now : List LotView) (at : ℕ) (p q : Held) → at < length lots → ((d : LotView) → BothTold t u (KeepsOthers (lot_at lots at d) (lot_at lots_now at d) p.pages q.pages)) → BothTold t u (OthersOwn lots at p.pages)
+pub owns_told : (t u : Option Blocks) (lots lots_now : List LotView) (at : ℕ) (p q : PurseView) → at < length lots → ((d : LotView) → BothTold t u (KeepsOthers (lot_at lots at d) (lot_at lots_now at d) p.pages q.pages)) → BothTold t u (OthersOwn lots at p.pages)
 owns_told t u lots lots_now at p q low keeps =
     told_all t u (λ d. KeepsOthers (lot_at lots at d) (lot_at lots_now at d) p.pages q.pages) (OthersOwn lots at p.pages) (first_of lots at low)
     (λ m n k size together i d inside far block own. still_owns m n lots lots_now at p.pages q.pages d low (k d) size together i inside far block own) keeps

@@ -25,7 +25,7 @@ pub fn append_at<X: Span, D: Spill>(
 ) -> Result<(), StreamFault>
     requires there { at < length lots.old }
     requires len { length (X.seen row.now) < 2 ^ 32 }
-    requires supply { (d : LotView) → 0 < length purse.old.pages + (length (lent (lot_at lots.old at d).feed) + length (pages_of (lot_at lots.old at d)).last) }
+    requires supply { (d : LotView) → 0 < length purse.old.pages + (length (lent (lot_at lots.old at d).feed) + length (pages_of (lot_at lots.old at d)).open_page) }
     requires room { length purse.old.pages + held_count lots.old ≤ purse.old.room }
     requires together { AreTogether (D.told disk.old) lots.old purse.old.pages }
     ensures cause { HasWriteCause (D.fault_count disk.old) (D.fault_count disk.new) result }
@@ -34,7 +34,7 @@ pub fn append_at<X: Span, D: Spill>(
     ensures changes { ChangesOne (D.told disk.old) (D.told disk.new) lots.old lots.new at purse.old purse.new }
     ensures own { (d : LotView) → (lot_at lots.new at d).stored.room ≡ (lot_at lots.old at d).stored.room }
     ensures reach { (d : LotView) → (lot_at lots.new at d).feed.reach ≡ (lot_at lots.old at d).feed.reach }
-    ensures supply { (d : LotView) → OnOk result (0 < length purse.new.pages + length (pages_of (lot_at lots.new at d)).last) }
+    ensures supply { (d : LotView) → OnOk result (0 < length purse.new.pages + length (pages_of (lot_at lots.new at d)).open_page) }
 {
     append_one(lots, at, row, purse, disk)
 }
@@ -49,7 +49,7 @@ fn append_one<X: Span, D: Spill>(
 ) -> Result<(), StreamFault>
     requires there { at < length lots.old }
     requires len { length (X.seen row.now) < 2 ^ 32 }
-    requires supply { (d : LotView) → 0 < length purse.old.pages + (length (lent (lot_at lots.old at d).feed) + length (pages_of (lot_at lots.old at d)).last) }
+    requires supply { (d : LotView) → 0 < length purse.old.pages + (length (lent (lot_at lots.old at d).feed) + length (pages_of (lot_at lots.old at d)).open_page) }
     requires room { (d : LotView) → length purse.old.pages + length (held (lot_at lots.old at d)) ≤ purse.old.room }
     requires sound { (d : LotView) → IsSound (D.told disk.old) (lot_at lots.old at d) purse.old.pages }
     ensures cause { HasWriteCause (D.fault_count disk.old) (D.fault_count disk.new) result }
@@ -63,7 +63,7 @@ fn append_one<X: Span, D: Spill>(
     ensures room { purse.new.room ≡ purse.old.room }
     ensures own { (d : LotView) → (lot_at lots.new at d).stored.room ≡ (lot_at lots.old at d).stored.room }
     ensures reach { (d : LotView) → (lot_at lots.new at d).feed.reach ≡ (lot_at lots.old at d).feed.reach }
-    ensures supply { (d : LotView) → OnOk result (0 < length purse.new.pages + length (pages_of (lot_at lots.new at d)).last) }
+    ensures supply { (d : LotView) → OnOk result (0 < length purse.new.pages + length (pages_of (lot_at lots.new at d)).open_page) }
 {
     lots[at].append(row, purse, disk)
 }

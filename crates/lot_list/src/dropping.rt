@@ -4,8 +4,8 @@ ghost use Rattle.flow_outside.specs.Causes.{HasStreamCause};
 ghost use Rattle.lot_store.specs.LotKeeping.{KeepsOthers, MovesSegments};
 ghost use Rattle.lot_store.specs.Spilling.{FreesBlocks};
 ghost use Rattle.lot_store.specs.Lots.{IsSound, LotView, held};
-ghost use Rattle.segment_core.specs.Segments.{weigh};
-ghost use Rattle.lot_list.specs.Together.{AreTogether, ChangesOne, FreesFirst, LeavesTheRest, NoneLives, OthersOwn, held_count, lot_at, weigh_held};
+ghost use Rattle.segment_core.specs.Segments.{segment_sum};
+ghost use Rattle.lot_list.specs.Together.{AreTogether, ChangesOne, FreesFirst, LeavesTheRest, NoneLives, OthersOwn, held_count, lot_at, held_sum};
 
 use flow_outside::failure::StreamFault;
 use flow_outside::spill::Spill;
@@ -32,7 +32,7 @@ pub fn drop_all<D: Spill>(
     ensures others { BothTold (D.told disk.old) (D.told disk.new) (LeavesTheRest lots.old lots.new purse.old.pages) }
     ensures fresh { BothTold (D.told disk.old) (D.told disk.new) NoneLives }
     ensures together { AreTogether (D.told disk.new) lots.new purse.new.pages }
-    ensures segments { (h : ℕ → ℕ → ℕ) → weigh h purse.new.pages + weigh_held h lots.new ≡ weigh h purse.old.pages + weigh_held h lots.old }
+    ensures segments { (h : ℕ → ℕ → ℕ) → segment_sum h purse.new.pages + held_sum h lots.new ≡ segment_sum h purse.old.pages + held_sum h lots.old }
     ensures room { purse.new.room ≡ purse.old.room }
 {
     let mut answer = Ok(());

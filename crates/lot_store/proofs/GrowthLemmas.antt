@@ -8,7 +8,7 @@ use Rattle.spool.specs.Changes.{IsAppended, IsKept, IsPushed, LeavesOpen}
 use Rattle.spool.specs.declared.writer.RunWriter.{RunWriter}
 use Rattle.spool.proofs.ChainLemmas.{end_is_block, first_not_end, holder_lives}
 use Rattle.spool.proofs.PushLemmas.{end_lives}
-use Rattle.lot_store.specs.Spilling.{OwnsWhatLives}
+use Rattle.lot_store.specs.Spilling.{NoOrphanBlocks}
 
 -- A chain that got a page more has the blocks that it had.
 chain_has : (m n : Blocks) (size number at count end next : ℕ) (page : List ℕ)
@@ -36,7 +36,7 @@ run_has m n size before after page written first pages change k had =
 -- What became live in a push is the run's.
 pub push_owns : (m n : Blocks) (size : ℕ) (before after : RunWriter) (page : List ℕ) → IsWritten m size before
     → after.first ≡ before.first → after.pages ≡ before.pages + 1 → IsAppended before.end after.end page m n → IsPushed size before after page m n
-    → OwnsWhatLives (Some before) (Some after) m n
+    → NoOrphanBlocks (Some before) (Some after) m n
 push_owns m n size before after page written first pages change more k state = elim state [
   | inl none ↦ elim (cases_eq k after.end) [
     | inl is ↦ inr (subst (HasBlock n after.first after.pages) (more.written.behind ∙ sym is) (end_is_block n after.first after.pages))
@@ -47,7 +47,7 @@ push_owns m n size before after page written first pages change more k state = e
 
 -- In a push that failed nothing became live.
 pub open_owns : (m n : Blocks) (size : ℕ) (writer : RunWriter) → IsWritten m size writer → LeavesOpen writer.end m n → IsKept size writer m n
-    → OwnsWhatLives (Some writer) (Some writer) m n
+    → NoOrphanBlocks (Some writer) (Some writer) m n
 open_owns m n size writer written change kept k state = elim state [
   | inl none ↦ inl (change.others k (λ is. end_lives m size writer written (ap m (sym is) ∙ none)) ∙ none)
   | inr had ↦ inr ((kept.blocks k).1 had)
@@ -55,7 +55,7 @@ open_owns m n size writer written change kept k state = elim state [
 
 -- What became live where a run was begun is the run's.
 pub begun_owns : (k m n : Blocks) (size : ℕ) (writer after : RunWriter) (page : List ℕ) → writer.pages ≡ 0
-    → IsGiven writer.first k m → OwnsWhatLives (Some writer) (Some after) m n → OwnsWhatLives None (Some after) k n
+    → IsGiven writer.first k m → NoOrphanBlocks (Some writer) (Some after) m n → NoOrphanBlocks None (Some after) k n
 begun_owns k m n size writer after page none given owns b state = elim state [
   | inl free ↦ elim (cases_eq b writer.first) [
     | inl is ↦ owns b (inr (subst (λ c. HasBlock m writer.first c b) (sym none) is))
@@ -65,7 +65,7 @@ begun_owns k m n size writer after page none given owns b state = elim state [
 ]
 
 -- A run was begun and its only block freed again: nothing became live.
-pub withdrawn_owns : (k m n o : Blocks) (first end : ℕ) → end ≡ first → IsGiven first k m → LeavesOpen end m n → Becomes first None n o → OwnsWhatLives None None k o
+pub withdrawn_owns : (k m n o : Blocks) (first end : ℕ) → end ≡ first → IsGiven first k m → LeavesOpen end m n → Becomes first None n o → NoOrphanBlocks None None k o
 withdrawn_owns k m n o first end same given change freed b state = elim state [
   | inl free ↦ elim (cases_eq b first) [
     | inl is ↦ inl (ap o is ∙ freed.is)

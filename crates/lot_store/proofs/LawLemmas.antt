@@ -1,7 +1,7 @@
 -- What leaves the blocks of others leaves a lot that stands apart.
 use Rattle.std.proofs.Common.{◌≡◌, ℕ, ◌-◌, List, ◌++◌, Option, Some, None, length, map, refl, ap, ◌∙◌, subst, sym}
 use Rattle.flow_outside.specs.Blocks.{Blocks}
-use Rattle.paged_view.specs.Pages.{part, parts}
+use Rattle.paged_view.specs.Pages.{used_bytes, all_used_bytes}
 use Rattle.spool.specs.Headers.{as_page}
 use Rattle.spool.specs.Reading.{number_at}
 use Rattle.spool.specs.Runs.{HasBlock, joined}
@@ -10,9 +10,9 @@ use Rattle.spool.specs.declared.place.RunReader.{RunReader}
 use Rattle.spool.specs.declared.writer.RunWriter.{RunWriter}
 use Rattle.spool.proofs.ChainLemmas.{SameChain, chain_lives, same_chain, stands_kept}
 use Rattle.spool.proofs.PushLemmas.{writer_stays}
-use Rattle.page_feed.specs.Feeds.{Fed, HasBlockLeft, HasLeft, IsLeftReadable, pages_left}
+use Rattle.page_feed.specs.Feeds.{FeedView, HasBlockLeft, HasLeft, IsLeftReadable, pages_left}
 use Rattle.page_feed.specs.Reach.{IsWithinReach, behind, sizes_of}
-use Rattle.lot_store.specs.Spilling.{IsSpilled, LeavesOthers, OwnsBlock, spilled}
+use Rattle.lot_store.specs.Spilling.{IsSpilled, ForeignBlocksUnchanged, OwnsBlock, spilled}
 use Rattle.lot_store.specs.Lots.{LotView, ReadsOwn, pages_of, text}
 use Rattle.lot_store.specs.Laws.{AreApart, IsOther}
 
@@ -24,7 +24,7 @@ pub record IsOtherRun (size : ℕ) (mine : Option RunWriter) (run : Option RunWr
   pub blocks : (block : ℕ) → OwnsBlock old run block → new block ≡ old block
   pub apart : AreApart new mine run
 
-other_run : (m n : Blocks) (before after : Option RunWriter) (size : ℕ) (run : Option RunWriter) → LeavesOthers before after m n → IsSpilled m size run → AreApart m before run → IsOtherRun size after run m n
+other_run : (m n : Blocks) (before after : Option RunWriter) (size : ℕ) (run : Option RunWriter) → ForeignBlocksUnchanged before after m n → IsSpilled m size run → AreApart m before run → IsOtherRun size after run m n
 other_run m n before after size None leaves stands apart = record {
   stands = tt;
   same = refl;
@@ -59,21 +59,21 @@ other_left m n (Some reader) same =
       had = chain.had;
     }
 
-other_rows : (m n : Blocks) (f : Fed) (rows : List (List ℕ)) → IsOtherLeft f.run m n → HasLeft m f rows → HasLeft n f rows
+other_rows : (m n : Blocks) (f : FeedView) (rows : List (List ℕ)) → IsOtherLeft f.run m n → HasLeft m f rows → HasLeft n f rows
 other_rows m n f rows other left = record {
   size = left.size;
   sized = left.sized;
   run = other.readable left.size left.run;
-  text = ap (λ ps. f.reader.text ++ (parts f.ahead ++ (joined ps ++ parts f.last))) other.pages ∙ left.text;
+  text = ap (λ ps. f.reader.text ++ (all_used_bytes f.ahead ++ (joined ps ++ all_used_bytes f.open_page))) other.pages ∙ left.text;
   lengths = left.lengths;
-  reach = subst (λ ps. IsWithinReach f.reach (behind (length (parts f.reader.pages) - length f.reader.text) (sizes_of f.reader.pages ++ (sizes_of f.ahead ++ (map (λ page. length (part (as_page page))) ps ++ sizes_of f.last)))) rows) (sym other.pages) left.reach;
+  reach = subst (λ ps. IsWithinReach f.reach (behind (length (all_used_bytes f.reader.pages) - length f.reader.text) (sizes_of f.reader.pages ++ (sizes_of f.ahead ++ (map (λ page. length (used_bytes (as_page page))) ps ++ sizes_of f.open_page)))) rows) (sym other.pages) left.reach;
 }
 
-pub other_lot : (old new : Blocks) (before after : Option RunWriter) (size : ℕ) (lot : LotView) → LeavesOthers before after old new → IsSpilled old size lot.stored.run → ReadsOwn old lot → AreApart old before lot.stored.run → IsOther size after lot old new
+pub other_lot : (old new : Blocks) (before after : Option RunWriter) (size : ℕ) (lot : LotView) → ForeignBlocksUnchanged before after old new → IsSpilled old size lot.stored.run → ReadsOwn old lot → AreApart old before lot.stored.run → IsOther size after lot old new
 other_lot old new before after size lot leaves stands reads apart =
     let run : IsOtherRun size after lot.stored.run old new = other_run old new before after size lot.stored.run leaves stands apart in
     let left : IsOtherLeft lot.feed.run old new = other_left old new lot.feed.run (λ block h. run.blocks block (reads block h)) in
-    let same : text new lot ≡ text old lot = ap (λ pages. parts (pages_of lot).kept ++ (joined pages ++ parts (pages_of lot).last)) run.same in
+    let same : text new lot ≡ text old lot = ap (λ pages. all_used_bytes (pages_of lot).kept ++ (joined pages ++ all_used_bytes (pages_of lot).open_page)) run.same in
     record {
       stands = run.stands;
       reads = λ block h. run.owns block (reads block (left.had block h));
@@ -81,7 +81,7 @@ other_lot old new before after size lot leaves stands reads apart =
       holds = λ rows holds. record {
         bytes = same ∙ holds.bytes;
         lengths = holds.lengths;
-        reach = subst (λ pages. IsWithinReach lot.feed.reach ((sizes_of (pages_of lot).kept ++ map (λ page. length (part (as_page page))) pages) ++ sizes_of (pages_of lot).last) rows) (sym run.same) holds.reach;
+        reach = subst (λ pages. IsWithinReach lot.feed.reach ((sizes_of (pages_of lot).kept ++ map (λ page. length (used_bytes (as_page page))) pages) ++ sizes_of (pages_of lot).open_page) rows) (sym run.same) holds.reach;
       };
       left = λ rows h. other_rows old new lot.feed rows left h;
       apart = run.apart;

@@ -1,22 +1,22 @@
 -- A lot that is read from its first page on.
 use Rattle.std.proofs.Common.{◌≡◌, ℕ, zero, suc, ◌+◌, ◌-◌, ◌^◌, ◌<◌, ◌≤◌, ◌==◌, Bool, cond, not, All, List, [], ◌∷◌, ◌++◌, length, map, Result, Ok, Err, IfOk, Option, Some, None, refl, sym, ap, ◌∙◌, subst, arith, append_assoc}
-use Rattle.segment_core.specs.Segments.{Page, misfits, weigh}
-use Rattle.segment_core.proofs.Weighing.{weigh-append}
+use Rattle.segment_core.specs.Segments.{SegmentView, count_other_size, segment_sum}
+use Rattle.segment_core.proofs.Weighing.{segment_sum-append}
 use Rattle.flow_outside.specs.Blocks.{Blocks, BothTold}
 use Rattle.flow_outside.specs.Told.{IfTold}
 use Rattle.flow_types.specs.Records.{frames}
-use Rattle.paged_view.specs.Pages.{body, page_at, part, parts, used}
+use Rattle.paged_view.specs.Pages.{body, page_at, used_bytes, all_used_bytes, used}
 use Rattle.paged_view.specs.Streams.{Advances, KnowsRows}
 use Rattle.spool.specs.Headers.{as_page}
 use Rattle.spool.specs.Reading.{number_at}
 use Rattle.spool.specs.Runs.{HasBlock, Stands, joined, pages_at}
 use Rattle.spool.specs.declared.place.RunReader.{RunReader}
 use Rattle.spool.specs.declared.writer.RunWriter.{RunWriter}
-use Rattle.page_feed.specs.Feeds.{Fed, HasBlockLeft, block_of, HasLeft, IsLeftReadable, kept_in, last_in, lent, pages_left}
+use Rattle.page_feed.specs.Feeds.{FeedView, HasBlockLeft, block_of, HasLeft, IsLeftReadable, kept_in, open_page_in, lent, pages_left}
 use Rattle.page_feed.specs.Reach.{IsWithinReach, behind, sizes_of, touched}
 use Rattle.page_feed.proofs.ReachLemmas.{behind_past, behind_within}
 use Rattle.lot_store.specs.Spilling.{IsFreeOrOwn, IsSpilled, OwnsBlock, spilled}
-use Rattle.lot_store.specs.Stores.{Stored, held as held_stored, sizes as sizes_stored, text as text_stored}
+use Rattle.lot_store.specs.Stores.{PagesView, held as held_stored, sizes as sizes_stored, text as text_stored}
 use Rattle.lot_store.specs.Lots.{HoldsRows, IsLeft, IsLot, IsRewound, IsSound, LotView, StandsWith, held, pages_of}
 use Rattle.lot_store.specs.LotKeeping.{Keeps, MovesSegments}
 use Rattle.lot_store.specs.Reads.{BeginsAt, BeginsRun, HandsOver}
@@ -79,43 +79,43 @@ reach_first reach (suc size ∷ sizes) rows within =
 -- The pages are those that the lot had.
 pub pages_begun : (b c : LotView) → BeginsAt b c → pages_of c ≡ b.stored
 pages_begun b c begins =
-    stored_same c.stored.room b.stored.room (c.stored.kept ++ kept_in c.feed) b.stored.kept c.stored.run b.stored.run (c.stored.last ++ last_in c.feed) b.stored.last
+    stored_same c.stored.room b.stored.room (c.stored.kept ++ kept_in c.feed) b.stored.kept c.stored.run b.stored.run (c.stored.open_page ++ open_page_in c.feed) b.stored.open_page
     begins.room
     (ap (λ ks. ks ++ kept_in c.feed) begins.kept ∙ ap kept_in begins.feed)
     begins.run
-    (ap (λ ks. ks ++ last_in c.feed) begins.last ∙ ap last_in begins.feed)
+    (ap (λ ks. ks ++ open_page_in c.feed) begins.open_page ∙ ap open_page_in begins.feed)
 
 -- It is a lot.
-pub lot_begun : (s t : Stored) (f g : Fed) → HandsOver s t f g → f.room ≡ s.room → length s.kept ≤ s.room → All (λ page. 0 < length (part page)) s.kept → length s.last ≤ 1 → (0 < length s.last → 0 < used (page_at s.last 0)) → used (page_at s.last 0) ≤ length (body (page_at s.last 0)) → IsLot t g
+pub lot_begun : (s t : PagesView) (f g : FeedView) → HandsOver s t f g → f.room ≡ s.room → length s.kept ≤ s.room → All (λ page. 0 < length (used_bytes page)) s.kept → length s.open_page ≤ 1 → (0 < length s.open_page → 0 < used (page_at s.open_page 0)) → used (page_at s.open_page 0) ≤ length (body (page_at s.open_page 0)) → IsLot t g
 lot_begun s t f g over room fits filled one some within =
     let kept : kept_in g ≡ s.kept = ap kept_in over.feed in
-    let last : last_in g ≡ s.last = ap last_in over.feed in
+    let open_page : open_page_in g ≡ s.open_page = ap open_page_in over.feed in
     record {
-      room = ap (λ (e : Fed). e.room) over.feed ∙ room ∙ sym over.room;
-      whole = λ _. omega (arith, ap length over.kept, ap length over.last);
+      room = ap (λ (e : FeedView). e.room) over.feed ∙ room ∙ sym over.room;
+      whole = λ _. omega (arith, ap length over.kept, ap length over.open_page);
       fits = omega (arith, ap length kept, fits, over.room);
-      filled = subst (All (λ page. 0 < length (part page))) (sym kept) filled;
-      one = omega (arith, ap length last, one);
-      some = subst (λ ps. 0 < length ps → 0 < used (page_at ps 0)) (sym last) some;
-      within = subst (λ ps. used (page_at ps 0) ≤ length (body (page_at ps 0))) (sym last) within;
+      filled = subst (All (λ page. 0 < length (used_bytes page))) (sym kept) filled;
+      one = omega (arith, ap length open_page, one);
+      some = subst (λ ps. 0 < length ps → 0 < used (page_at ps 0)) (sym open_page) some;
+      within = subst (λ ps. used (page_at ps 0) ≤ length (body (page_at ps 0))) (sym open_page) within;
     }
 
 -- What is left of a lot that is read from its first page on.
-left_at : (m : Blocks) (s t : Stored) (f g : Fed) (size : ℕ) (rows : List (List ℕ)) → HandsOver s t f g → misfits size g.blank ≡ 0 → IsSpilled m size s.run
+left_at : (m : Blocks) (s t : PagesView) (f g : FeedView) (size : ℕ) (rows : List (List ℕ)) → HandsOver s t f g → count_other_size size g.blank ≡ 0 → IsSpilled m size s.run
     → text_stored m s ≡ frames rows → All (λ row. length row < 2 ^ 32) rows → IsWithinReach f.reach (sizes_stored m s) rows → HasLeft m g rows
 left_at m s t f g size rows over fits stands bytes lengths within =
     let same : pages_left m g.run ≡ spilled m s.run = left_begun m s.run g.run over.begins in
-    let spill_sizes : List ℕ = map (λ page. length (part (as_page page))) (spilled m s.run) in
-    let e : map (λ page. length (part (as_page page))) (pages_left m g.run) ≡ spill_sizes = ap (map (λ page. length (part (as_page page)))) same in
-    subst (λ (h : Fed). HasLeft m h rows) (sym over.feed) (record {
+    let spill_sizes : List ℕ = map (λ page. length (used_bytes (as_page page))) (spilled m s.run) in
+    let e : map (λ page. length (used_bytes (as_page page))) (pages_left m g.run) ≡ spill_sizes = ap (map (λ page. length (used_bytes (as_page page)))) same in
+    subst (λ (h : FeedView). HasLeft m h rows) (sym over.feed) (record {
       size = size;
       sized = fits;
       run = readable_begun m size s.run g.run over.begins stands;
-      text = ap (λ ps. parts s.kept ++ (joined ps ++ parts s.last)) same ∙ bytes;
+      text = ap (λ ps. all_used_bytes s.kept ++ (joined ps ++ all_used_bytes s.open_page)) same ∙ bytes;
       lengths = lengths;
-      reach = subst (λ sizes. IsWithinReach f.reach sizes rows) (ap (λ xs. behind 0 (sizes_of s.kept ++ (xs ++ sizes_of s.last))) (sym e))
-          (reach_first f.reach (sizes_of s.kept ++ (spill_sizes ++ sizes_of s.last)) rows
-          (subst (λ sizes. IsWithinReach f.reach sizes rows) (append_assoc (sizes_of s.kept) spill_sizes (sizes_of s.last)) within));
+      reach = subst (λ sizes. IsWithinReach f.reach sizes rows) (ap (λ xs. behind 0 (sizes_of s.kept ++ (xs ++ sizes_of s.open_page))) (sym e))
+          (reach_first f.reach (sizes_of s.kept ++ (spill_sizes ++ sizes_of s.open_page)) rows
+          (subst (λ sizes. IsWithinReach f.reach sizes rows) (append_assoc (sizes_of s.kept) spill_sizes (sizes_of s.open_page)) within));
     })
 
 -- What segments of another size weigh.
@@ -123,15 +123,15 @@ abbrev misfit : ℕ → ℕ → ℕ → ℕ
 misfit size = λ _ n. cond (not (n == size)) 1 0
 
 -- The segments that a feed took are out of the purse.
-abbrev pub TookOut : Fed → (q t : List Page) → Type 0
-TookOut g q t = (h : ℕ → ℕ → ℕ) → weigh h t + weigh h g.blank ≡ weigh h q
+abbrev pub TookOut : FeedView → (q t : List SegmentView) → Type 0
+TookOut g q t = (h : ℕ → ℕ → ℕ) → segment_sum h t + segment_sum h g.blank ≡ segment_sum h q
 
 -- The segments for reading have the size of the others.
-blank_fits : (size : ℕ) (a : LotView) (g : Fed) (p q t : List Page) → GaveBack a p q → TookOut g q t → misfits size (held a) ≡ 0 → misfits size p ≡ 0 → (misfits size g.blank ≡ 0) × (misfits size t ≡ 0)
+blank_fits : (size : ℕ) (a : LotView) (g : FeedView) (p q t : List SegmentView) → GaveBack a p q → TookOut g q t → count_other_size size (held a) ≡ 0 → count_other_size size p ≡ 0 → (count_other_size size g.blank ≡ 0) × (count_other_size size t ≡ 0)
 blank_fits size a g p q t back took own others =
-    let own_weight : weigh (misfit size) (held a) ≡ 0 = own in
-    let other_weight : weigh (misfit size) p ≡ 0 = others in
-    let whole : weigh (misfit size) (held a) ≡ weigh (misfit size) (held_stored (pages_of a)) + weigh (misfit size) (lent a.feed) = weigh-append (misfit size) (held_stored (pages_of a)) (lent a.feed) in (
+    let own_weight : segment_sum (misfit size) (held a) ≡ 0 = own in
+    let other_weight : segment_sum (misfit size) p ≡ 0 = others in
+    let whole : segment_sum (misfit size) (held a) ≡ segment_sum (misfit size) (held_stored (pages_of a)) + segment_sum (misfit size) (lent a.feed) = segment_sum-append (misfit size) (held_stored (pages_of a)) (lent a.feed) in (
       omega (arith, own_weight, other_weight, whole, back (misfit size), took (misfit size)),
       omega (arith, own_weight, other_weight, whole, back (misfit size), took (misfit size)),
     )
@@ -143,18 +143,18 @@ pages_rewound a b c is begins = pages_begun b c begins ∙ is
 lent_begun : (b c : LotView) → BeginsAt b c → lent c.feed ≡ c.feed.blank
 lent_begun b c begins = ap lent begins.feed
 
-pub moves_rewound : (a b c : LotView) (p q t : List Page) → b.stored ≡ pages_of a → GaveBack a p q → BeginsAt b c → TookOut c.feed q t → MovesSegments a c p t
+pub moves_rewound : (a b c : LotView) (p q t : List SegmentView) → b.stored ≡ pages_of a → GaveBack a p q → BeginsAt b c → TookOut c.feed q t → MovesSegments a c p t
 moves_rewound a b c p q t is back begins took h =
-    let pages : weigh h (held_stored (pages_of c)) ≡ weigh h (held_stored (pages_of a)) = ap (λ u. weigh h (held_stored u)) (pages_rewound a b c is begins) in
-    let loans : weigh h (lent c.feed) ≡ weigh h c.feed.blank = ap (weigh h) (lent_begun b c begins) in
-    omega (arith, back h, took h, pages, loans, weigh-append h (held_stored (pages_of a)) (lent a.feed), weigh-append h (held_stored (pages_of c)) (lent c.feed))
+    let pages : segment_sum h (held_stored (pages_of c)) ≡ segment_sum h (held_stored (pages_of a)) = ap (λ u. segment_sum h (held_stored u)) (pages_rewound a b c is begins) in
+    let loans : segment_sum h (lent c.feed) ≡ segment_sum h c.feed.blank = ap (segment_sum h) (lent_begun b c begins) in
+    omega (arith, back h, took h, pages, loans, segment_sum-append h (held_stored (pages_of a)) (lent a.feed), segment_sum-append h (held_stored (pages_of c)) (lent c.feed))
 
-stands_rewound : (size : ℕ) (m : Blocks) (a b c : LotView) (p q t : List Page) → b.stored ≡ pages_of a → GaveBack a p q → BeginsAt b c → TookOut c.feed q t → StandsWith size a p m → StandsWith size c t m
+stands_rewound : (size : ℕ) (m : Blocks) (a b c : LotView) (p q t : List SegmentView) → b.stored ≡ pages_of a → GaveBack a p q → BeginsAt b c → TookOut c.feed q t → StandsWith size a p m → StandsWith size c t m
 stands_rewound size m a b c p q t is back begins took st =
-    let moved : weigh (misfit size) t + weigh (misfit size) (held c) ≡ weigh (misfit size) p + weigh (misfit size) (held a) = moves_rewound a b c p q t is back begins took (misfit size) in
-    let own : weigh (misfit size) (held a) ≡ 0 = st.own in
-    let others : weigh (misfit size) p ≡ 0 = st.others in
-    let run : c.stored.run ≡ a.stored.run = begins.run ∙ ap (λ (u : Stored). u.run) is in
+    let moved : segment_sum (misfit size) t + segment_sum (misfit size) (held c) ≡ segment_sum (misfit size) p + segment_sum (misfit size) (held a) = moves_rewound a b c p q t is back begins took (misfit size) in
+    let own : segment_sum (misfit size) (held a) ≡ 0 = st.own in
+    let others : segment_sum (misfit size) p ≡ 0 = st.others in
+    let run : c.stored.run ≡ a.stored.run = begins.run ∙ ap (λ (u : PagesView). u.run) is in
     record {
       own = omega (arith, moved, own, others);
       others = omega (arith, moved, own, others);
@@ -162,43 +162,43 @@ stands_rewound size m a b c p q t is back begins took st =
       reads = λ block left. subst (λ u. OwnsBlock m u block) (sym begins.run) (owns_begun m b.stored.run c.feed.run block begins.begins left);
     }
 
-keeps_rewound_at : (m : Blocks) (a b c : LotView) (p q t : List Page) → b.stored ≡ pages_of a → GaveBack a p q → BeginsAt b c → TookOut c.feed q t → Keeps a c p t m m
+keeps_rewound_at : (m : Blocks) (a b c : LotView) (p q t : List SegmentView) → b.stored ≡ pages_of a → GaveBack a p q → BeginsAt b c → TookOut c.feed q t → Keeps a c p t m m
 keeps_rewound_at m a b c p q t is back begins took =
-    let run : c.stored.run ≡ a.stored.run = begins.run ∙ ap (λ (u : Stored). u.run) is in
+    let run : c.stored.run ≡ a.stored.run = begins.run ∙ ap (λ (u : PagesView). u.run) is in
     record {
       stands = λ size st. stands_rewound size m a b c p q t is back begins took st;
       others = λ k live other. (refl, λ h. other (subst (λ u. OwnsBlock m u k) run h));
       owns = λ k state. subst (λ u. IsFreeOrOwn m u k) (sym run) state;
     }
 
-pub keeps_rewound : (told : Option Blocks) (a b c : LotView) (p q t : List Page) → b.stored ≡ pages_of a → GaveBack a p q → BeginsAt b c → TookOut c.feed q t → BothTold told told (Keeps a c p t)
+pub keeps_rewound : (told : Option Blocks) (a b c : LotView) (p q t : List SegmentView) → b.stored ≡ pages_of a → GaveBack a p q → BeginsAt b c → TookOut c.feed q t → BothTold told told (Keeps a c p t)
 keeps_rewound None a b c p q t is back begins took = tt
 keeps_rewound (Some m) a b c p q t is back begins took = keeps_rewound_at m a b c p q t is back begins took
 
-pub sound_rewound : (told : Option Blocks) (a b c : LotView) (p q t : List Page) → b.stored ≡ pages_of a → GaveBack a p q → BeginsAt b c → TookOut c.feed q t → IsSound told a p → IsSound told c t
+pub sound_rewound : (told : Option Blocks) (a b c : LotView) (p q t : List SegmentView) → b.stored ≡ pages_of a → GaveBack a p q → BeginsAt b c → TookOut c.feed q t → IsSound told a p → IsSound told c t
 sound_rewound None a b c p q t is back begins took sound = tt
 sound_rewound (Some m) a b c p q t is back begins took (size, st) =
     (size, stands_rewound size m a b c p q t is back begins took st)
 
 -- The lot's records are those that it had, and all of them are left.
-rows_rewound_at : (m : Blocks) (a b c : LotView) (p q t : List Page) (size : ℕ) (rows : List (List ℕ)) → b.stored ≡ pages_of a → b.feed.reach ≡ a.feed.reach → GaveBack a p q → BeginsAt b c → TookOut c.feed q t
+rows_rewound_at : (m : Blocks) (a b c : LotView) (p q t : List SegmentView) (size : ℕ) (rows : List (List ℕ)) → b.stored ≡ pages_of a → b.feed.reach ≡ a.feed.reach → GaveBack a p q → BeginsAt b c → TookOut c.feed q t
     → StandsWith size a p m → HoldsRows m a rows → HoldsRows m c rows × HasLeft m c.feed rows
 rows_rewound_at m a b c p q t size rows is reach back begins took st holds =
     let pages : pages_of c ≡ pages_of a = pages_rewound a b c is begins in
-    let same : c.feed.reach ≡ a.feed.reach = ap (λ (f : Fed). f.reach) begins.feed ∙ reach in (
+    let same : c.feed.reach ≡ a.feed.reach = ap (λ (f : FeedView). f.reach) begins.feed ∙ reach in (
       record {
         bytes = ap (text_stored m) pages ∙ holds.bytes;
         lengths = holds.lengths;
         reach = subst (λ k. IsWithinReach k (sizes_stored m (pages_of c)) rows) (sym same) (subst (λ u. IsWithinReach a.feed.reach (sizes_stored m u) rows) (sym pages) holds.reach);
       },
       left_at m b.stored c.stored b.feed c.feed size rows begins (blank_fits size a c.feed p q t back took st.own st.others).0
-          (subst (λ (u : Stored). IsSpilled m size u.run) (sym is) st.spilled)
+          (subst (λ (u : PagesView). IsSpilled m size u.run) (sym is) st.spilled)
           (ap (text_stored m) is ∙ holds.bytes)
           holds.lengths
           (subst (λ k. IsWithinReach k (sizes_stored m b.stored) rows) (sym reach) (subst (λ u. IsWithinReach a.feed.reach (sizes_stored m u) rows) (sym is) holds.reach)),
     )
 
-pub rows_rewound : (told : Option Blocks) (a b c : LotView) (p q t : List Page) → b.stored ≡ pages_of a → b.feed.reach ≡ a.feed.reach → GaveBack a p q → BeginsAt b c → TookOut c.feed q t
+pub rows_rewound : (told : Option Blocks) (a b c : LotView) (p q t : List SegmentView) → b.stored ≡ pages_of a → b.feed.reach ≡ a.feed.reach → GaveBack a p q → BeginsAt b c → TookOut c.feed q t
     → IsSound told a p → IfTold told (λ m. (rows : List (List ℕ)) → HoldsRows m a rows → HoldsRows m c rows × HasLeft m c.feed rows)
 rows_rewound None a b c p q t is reach back begins took sound = tt
 rows_rewound (Some m) a b c p q t is reach back begins took (size, st) =
@@ -206,7 +206,7 @@ rows_rewound (Some m) a b c p q t is reach back begins took (size, st) =
 
 -- It may be advanced.
 pub ready_rewound : (b c : LotView) → BeginsAt b c → length (lent c.feed) ≡ c.feed.reach → IsRewound c
-ready_rewound b c begins started = record { started = started; kept = begins.kept; last = begins.last }
+ready_rewound b c begins started = record { started = started; kept = begins.kept; open_page = begins.open_page }
 
 -- The bytes and records of a lot whose feed moved on.
 pub known_in : (told : Option Blocks) (a : LotView) → KnowsRows told (IsLeft a told) → IfTold told (λ m. (rows : List (List ℕ)) × HasLeft m a.feed rows)
@@ -221,25 +221,25 @@ rows_out (Ok more) None now a b shown same known = λ rows left. absurd left
 rows_out (Ok more) (Some m) now a b shown same known =
     λ rows left. subst (λ o. Advances rows more shown (IsLeft b o)) (sym same) (known rows left)
 
-pub lot_moved : (s : Stored) (f g : Fed) → IsLot s f → g.room ≡ f.room → kept_in g ≡ kept_in f → last_in g ≡ last_in f → IsLot s g
-lot_moved s f g lot room kept last = record {
+pub lot_moved : (s : PagesView) (f g : FeedView) → IsLot s f → g.room ≡ f.room → kept_in g ≡ kept_in f → open_page_in g ≡ open_page_in f → IsLot s g
+lot_moved s f g lot room kept open_page = record {
   room = room ∙ lot.room;
-  whole = subst (λ ks. 0 < length ks + length (last_in g) → length s.kept + length s.last ≡ 0) (sym kept) (subst (λ ls. 0 < length (kept_in f) + length ls → length s.kept + length s.last ≡ 0) (sym last) lot.whole);
+  whole = subst (λ ks. 0 < length ks + length (open_page_in g) → length s.kept + length s.open_page ≡ 0) (sym kept) (subst (λ ls. 0 < length (kept_in f) + length ls → length s.kept + length s.open_page ≡ 0) (sym open_page) lot.whole);
   fits = omega (arith, ap length kept, lot.fits);
-  filled = subst (All (λ page. 0 < length (part page))) (sym kept) lot.filled;
-  one = omega (arith, ap length last, lot.one);
-  some = subst (λ ps. 0 < length ps → 0 < used (page_at ps 0)) (sym last) lot.some;
-  within = subst (λ ps. used (page_at ps 0) ≤ length (body (page_at ps 0))) (sym last) lot.within;
+  filled = subst (All (λ page. 0 < length (used_bytes page))) (sym kept) lot.filled;
+  one = omega (arith, ap length open_page, lot.one);
+  some = subst (λ ps. 0 < length ps → 0 < used (page_at ps 0)) (sym open_page) lot.some;
+  within = subst (λ ps. used (page_at ps 0) ≤ length (body (page_at ps 0))) (sym open_page) lot.within;
 }
 
-pub pages_moved : (s : Stored) (f g : Fed) → kept_in g ≡ kept_in f → last_in g ≡ last_in f → pages_of (record { stored = s; feed = g }) ≡ pages_of (record { stored = s; feed = f })
-pages_moved s f g kept last =
-    stored_same s.room s.room (s.kept ++ kept_in g) (s.kept ++ kept_in f) s.run s.run (s.last ++ last_in g) (s.last ++ last_in f) refl (ap (λ ks. s.kept ++ ks) kept) refl (ap (λ ls. s.last ++ ls) last)
+pub pages_moved : (s : PagesView) (f g : FeedView) → kept_in g ≡ kept_in f → open_page_in g ≡ open_page_in f → pages_of (record { stored = s; feed = g }) ≡ pages_of (record { stored = s; feed = f })
+pages_moved s f g kept open_page =
+    stored_same s.room s.room (s.kept ++ kept_in g) (s.kept ++ kept_in f) s.run s.run (s.open_page ++ open_page_in g) (s.open_page ++ open_page_in f) refl (ap (λ ks. s.kept ++ ks) kept) refl (ap (λ ls. s.open_page ++ ls) open_page)
 
-pub segments_moved : (a b : LotView) → pages_of b ≡ pages_of a → ((h : ℕ → ℕ → ℕ) → weigh h (lent b.feed) ≡ weigh h (lent a.feed)) → (h : ℕ → ℕ → ℕ) → weigh h (held b) ≡ weigh h (held a)
+pub segments_moved : (a b : LotView) → pages_of b ≡ pages_of a → ((h : ℕ → ℕ → ℕ) → segment_sum h (lent b.feed) ≡ segment_sum h (lent a.feed)) → (h : ℕ → ℕ → ℕ) → segment_sum h (held b) ≡ segment_sum h (held a)
 segments_moved a b pages loans h =
-    let same : weigh h (held_stored (pages_of b)) ≡ weigh h (held_stored (pages_of a)) = ap (λ u. weigh h (held_stored u)) pages in
-    omega (arith, same, loans h, weigh-append h (held_stored (pages_of a)) (lent a.feed), weigh-append h (held_stored (pages_of b)) (lent b.feed))
+    let same : segment_sum h (held_stored (pages_of b)) ≡ segment_sum h (held_stored (pages_of a)) = ap (λ u. segment_sum h (held_stored u)) pages in
+    omega (arith, same, loans h, segment_sum-append h (held_stored (pages_of a)) (lent a.feed), segment_sum-append h (held_stored (pages_of b)) (lent b.feed))
 
 pub holds_moved : (told : Option Blocks) (a b : LotView) → pages_of b ≡ pages_of a → b.feed.reach ≡ a.feed.reach → IfTold told (λ m. (rows : List (List ℕ)) → HoldsRows m a rows → HoldsRows m b rows)
 holds_moved None a b pages reach = tt
@@ -249,11 +249,11 @@ holds_moved (Some m) a b pages reach = λ rows holds. record {
   reach = subst (λ k. IsWithinReach k (sizes_stored m (pages_of b)) rows) (sym reach) (subst (λ u. IsWithinReach a.feed.reach (sizes_stored m u) rows) (sym pages) holds.reach);
 }
 
-stands_moved_at : (m : Blocks) (a b : LotView) (size : ℕ) (purse : List Page) → pages_of b ≡ pages_of a → b.stored.run ≡ a.stored.run → ((h : ℕ → ℕ → ℕ) → weigh h (lent b.feed) ≡ weigh h (lent a.feed))
+stands_moved_at : (m : Blocks) (a b : LotView) (size : ℕ) (purse : List SegmentView) → pages_of b ≡ pages_of a → b.stored.run ≡ a.stored.run → ((h : ℕ → ℕ → ℕ) → segment_sum h (lent b.feed) ≡ segment_sum h (lent a.feed))
     → ((block : ℕ) → HasBlockLeft m b.feed.run block → HasBlockLeft m a.feed.run block) → StandsWith size a purse m → StandsWith size b purse m
 stands_moved_at m a b size purse pages run loans among st =
-    let same : weigh (misfit size) (held b) ≡ weigh (misfit size) (held a) = segments_moved a b pages loans (misfit size) in
-    let own : weigh (misfit size) (held a) ≡ 0 = st.own in
+    let same : segment_sum (misfit size) (held b) ≡ segment_sum (misfit size) (held a) = segments_moved a b pages loans (misfit size) in
+    let own : segment_sum (misfit size) (held a) ≡ 0 = st.own in
     record {
       own = omega (arith, same, own);
       others = st.others;
@@ -261,9 +261,9 @@ stands_moved_at m a b size purse pages run loans among st =
       reads = λ block left. subst (λ u. OwnsBlock m u block) (sym run) (st.reads block (among block left));
     }
 
-pub stands_moved : (told : Option Blocks) (a b : LotView) → pages_of b ≡ pages_of a → b.stored.run ≡ a.stored.run → ((h : ℕ → ℕ → ℕ) → weigh h (lent b.feed) ≡ weigh h (lent a.feed))
+pub stands_moved : (told : Option Blocks) (a b : LotView) → pages_of b ≡ pages_of a → b.stored.run ≡ a.stored.run → ((h : ℕ → ℕ → ℕ) → segment_sum h (lent b.feed) ≡ segment_sum h (lent a.feed))
     → IfTold told (λ m. (block : ℕ) → HasBlockLeft m b.feed.run block → HasBlockLeft m a.feed.run block)
-    → IfTold told (λ m. (size : ℕ) (purse : List Page) → StandsWith size a purse m → StandsWith size b purse m)
+    → IfTold told (λ m. (size : ℕ) (purse : List SegmentView) → StandsWith size a purse m → StandsWith size b purse m)
 stands_moved None a b pages run loans among = tt
 stands_moved (Some m) a b pages run loans among =
     λ size purse st. stands_moved_at m a b size purse pages run loans among st

@@ -3,7 +3,7 @@ use Rattle.std.specs.Prelude.{◌≡◌, ℕ, List, Option}
 use Rattle.flow_outside.specs.Blocks.{Blocks}
 use Rattle.page_feed.specs.Feeds.{HasLeft}
 use Rattle.spool.specs.declared.writer.RunWriter.{RunWriter}
-use Rattle.lot_store.specs.Spilling.{IsSpilled, LeavesOthers, OwnsBlock}
+use Rattle.lot_store.specs.Spilling.{IsSpilled, ForeignBlocksUnchanged, OwnsBlock}
 use Rattle.lot_store.specs.Lots.{LotView, ReadsOwn, text}
 use Rattle.lot_store.specs.LotKeeping.{KeepsRows}
 
@@ -25,5 +25,5 @@ pub record IsOther (size : ℕ) (run : Option RunWriter) (lot : LotView) (old ne
 abbrev pub OtherLotsStay : Type 0
 OtherLotsStay =
     (old new : Blocks) (before after : Option RunWriter) (size : ℕ) (lot : LotView)
-    → LeavesOthers before after old new → IsSpilled old size lot.stored.run → ReadsOwn old lot → AreApart old before lot.stored.run
+    → ForeignBlocksUnchanged before after old new → IsSpilled old size lot.stored.run → ReadsOwn old lot → AreApart old before lot.stored.run
     → IsOther size after lot old new

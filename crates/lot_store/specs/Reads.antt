@@ -2,8 +2,8 @@
 use Rattle.std.specs.Prelude.{◌≡◌, [], Option, Some, None, ⊤}
 use Rattle.spool.specs.declared.place.RunReader.{RunReader}
 use Rattle.spool.specs.declared.writer.RunWriter.{RunWriter}
-use Rattle.page_feed.specs.Feeds.{Fed, stopped}
-use Rattle.lot_store.specs.Stores.{Stored}
+use Rattle.page_feed.specs.Feeds.{FeedView, stopped}
+use Rattle.lot_store.specs.Stores.{PagesView}
 use Rattle.lot_store.specs.Lots.{LotView}
 
 -- The reader stands at the first page of what the writer has pushed, and has read none.
@@ -21,16 +21,16 @@ BeginsRun (Some writer) None = ⊥
 BeginsRun (Some writer) (Some reader) = IsAtFirst writer reader
 
 -- A feed that held nothing has all pages, and is at the first one.
-pub record HandsOver (before after : Stored) (old new : Fed) : Type 0 where
+pub record HandsOver (before after : PagesView) (old new : FeedView) : Type 0 where
   pub feed : new ≡ record (stopped old.room old.reach) {
     ahead = before.kept;
     run = new.run;
-    last = before.last;
+    open_page = before.open_page;
     blank = new.blank;
   }
   pub begins : BeginsRun before.run new.run
   pub kept : after.kept ≡ []
-  pub last : after.last ≡ []
+  pub open_page : after.open_page ≡ []
   pub run : after.run ≡ before.run
   pub room : after.room ≡ before.room
 

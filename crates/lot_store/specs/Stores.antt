@@ -1,9 +1,9 @@
 -- The pages of a lot as its writing sees them, and the bytes that they stand for. The rules are this project's own.
 use Rattle.std.specs.Prelude.{◌≡◌, ◌<◌, ◌≤◌, ℕ, All, List, ◌++◌, length, map, Option}
-use Rattle.segment_core.specs.Segments.{Page, misfits}
+use Rattle.segment_core.specs.Segments.{SegmentView, count_other_size}
 use Rattle.flow_outside.specs.Blocks.{Blocks}
 use Rattle.flow_outside.specs.Told.{IfTold}
-use Rattle.paged_view.specs.Pages.{body, page_at, part, parts, used}
+use Rattle.paged_view.specs.Pages.{body, page_at, used_bytes, all_used_bytes, used}
 use Rattle.spool.specs.Headers.{as_page}
 use Rattle.spool.specs.Runs.{joined}
 use Rattle.spool.specs.declared.writer.RunWriter.{RunWriter}
@@ -11,57 +11,57 @@ use Rattle.page_feed.specs.Reach.{sizes_of}
 use Rattle.lot_store.specs.Spilling.{IsSpilled, spilled}
 
 -- Pages that are written one behind the other are seen as the most full pages that are kept in segments, the first pages,
--- which are kept in segments, the run of those behind them, which are spilled, and the page under way behind all of
+-- which are kept in segments, the run of those behind them, which are spilled, and the open page behind all of
 -- these, where there is one.
-pub record Stored : Type 0 where
+pub record PagesView : Type 0 where
   pub room : ℕ
-  pub kept : List Page
+  pub kept : List SegmentView
   pub run : Option RunWriter
-  pub last : List Page
+  pub open_page : List SegmentView
 
 -- the segments that they stand in
-abbrev pub held : Stored → List Page
-held lot = lot.kept ++ lot.last
+abbrev pub held : PagesView → List SegmentView
+held lot = lot.kept ++ lot.open_page
 
 -- The bytes that they stand for: the used bytes of the pages, kept, spilled and under way, one after the other.
-abbrev pub text : Blocks → Stored → List ℕ
-text blocks lot = parts lot.kept ++ (joined (spilled blocks lot.run) ++ parts lot.last)
+abbrev pub text : Blocks → PagesView → List ℕ
+text blocks lot = all_used_bytes lot.kept ++ (joined (spilled blocks lot.run) ++ all_used_bytes lot.open_page)
 
--- How many bytes are used of each page that was stored, kept or spilled, one page after the other. The page under way
+-- How many bytes are used of each page that was stored, kept or spilled, one page after the other. The open page
 -- isn't among them.
-abbrev pub stored_sizes : Blocks → Stored → List ℕ
+abbrev pub stored_sizes : Blocks → PagesView → List ℕ
 stored_sizes blocks lot =
-    sizes_of lot.kept ++ map (λ page. length (part (as_page page))) (spilled blocks lot.run)
+    sizes_of lot.kept ++ map (λ page. length (used_bytes (as_page page))) (spilled blocks lot.run)
 
 -- how many bytes are used of each page, that under way the last
-abbrev pub sizes : Blocks → Stored → List ℕ
-sizes blocks lot = stored_sizes blocks lot ++ sizes_of lot.last
+abbrev pub sizes : Blocks → PagesView → List ℕ
+sizes blocks lot = stored_sizes blocks lot ++ sizes_of lot.open_page
 
 -- They stand on their disk, beside the segments of a purse: all segments have `size` bytes, and so have the spilled
 -- pages, which stand as a run.
-pub record StandsWith (size : ℕ) (lot : Stored) (purse : List Page) (blocks : Blocks) : Type 0 where
-  pub own : misfits size (held lot) ≡ 0
-  pub others : misfits size purse ≡ 0
+pub record StandsWith (size : ℕ) (lot : PagesView) (purse : List SegmentView) (blocks : Blocks) : Type 0 where
+  pub own : count_other_size size (held lot) ≡ 0
+  pub others : count_other_size size purse ≡ 0
   pub spilled : IsSpilled blocks size lot.run
 
 -- Where the disk tells, they stand on it, for some size of segments.
-abbrev pub IsSound : Option Blocks → Stored → (purse : List Page) → Type 0
+abbrev pub IsSound : Option Blocks → PagesView → (purse : List SegmentView) → Type 0
 IsSound told lot purse = IfTold told (λ blocks. (size : ℕ) × StandsWith size lot purse blocks)
 
--- Some bytes of each page are used, and of the page under way, of which there is one at most, no more than it has.
-pub record ArePages (lot : Stored) : Type 0 where
-  pub filled : All (λ page. 0 < length (part page)) lot.kept
-  pub one : length lot.last ≤ 1
-  pub some : 0 < length lot.last → 0 < used (page_at lot.last 0)
-  pub within : used (page_at lot.last 0) ≤ length (body (page_at lot.last 0))
+-- Some bytes of each page are used, and of the open page, of which there is one at most, no more than it has.
+pub record ArePages (lot : PagesView) : Type 0 where
+  pub filled : All (λ page. 0 < length (used_bytes page)) lot.kept
+  pub one : length lot.open_page ≤ 1
+  pub some : 0 < length lot.open_page → 0 < used (page_at lot.open_page 0)
+  pub within : used (page_at lot.open_page 0) ≤ length (body (page_at lot.open_page 0))
 
 -- What is always true of them: the list of kept pages, of `len`, has space reserved for its room, and the list of the page
--- under way, of `count`, for one. Some bytes of each page are used, and of the page under way no more than it has.
-pub record IsStore (kept last : List Page) (len capacity room count space : ℕ) : Type 0 where
-  pub filled : All (λ page. 0 < length (part page)) kept
+-- under way, of `count`, for one. Some bytes of each page are used, and of the open page no more than it has.
+pub record IsStore (kept open_page : List SegmentView) (len capacity room count space : ℕ) : Type 0 where
+  pub filled : All (λ page. 0 < length (used_bytes page)) kept
   pub fits : len ≤ room
   pub reserved : room ≤ capacity
   pub one : count ≤ 1
   pub place : 1 ≤ space
-  pub some : 0 < count → 0 < used (page_at last 0)
-  pub within : used (page_at last 0) ≤ length (body (page_at last 0))
+  pub some : 0 < count → 0 < used (page_at open_page 0)
+  pub within : used (page_at open_page 0) ≤ length (body (page_at open_page 0))

@@ -5,7 +5,7 @@ ghost use Rattle.lot_store.specs.LotKeeping.{AddsFullPages, AddsRow, AddsText, K
 ghost use Rattle.lot_store.specs.Lots.{IsSound, held, pages_of};
 ghost use Rattle.lot_store.specs.Spilling.{HasWriteCause};
 ghost use Rattle.page_feed.specs.Feeds.{lent, stopped};
-ghost use Rattle.paged_view.specs.Pages.{part};
+ghost use Rattle.paged_view.specs.Pages.{used_bytes};
 
 use crate::lot::Lot;
 use flow_outside::failure::StreamFault;
@@ -27,7 +27,7 @@ impl Lot {
         disk: &mut D,
     ) -> Result<(), StreamFault>
         requires len { length (X.seen row.now) < 2 ^ 32 }
-        requires supply { 0 < length purse.old.pages + (length (lent self.old.feed) + length (pages_of self.old).last) }
+        requires supply { 0 < length purse.old.pages + (length (lent self.old.feed) + length (pages_of self.old).open_page) }
         requires room { length purse.old.pages + length (held self.old) ≤ purse.old.room }
         requires sound { IsSound (D.told disk.old) self.old purse.old.pages }
         ensures cause { HasWriteCause (D.fault_count disk.old) (D.fault_count disk.new) result }
@@ -41,7 +41,7 @@ impl Lot {
             (Keeps self.old self.new purse.old.pages purse.new.pages) }
         ensures sound { IsSound (D.told disk.new) self.new purse.new.pages }
         ensures segments { MovesSegments self.old self.new purse.old.pages purse.new.pages }
-        ensures supply { OnOk result (0 < length purse.new.pages + length (pages_of self.new).last) }
+        ensures supply { OnOk result (0 < length purse.new.pages + length (pages_of self.new).open_page) }
         ensures room { purse.new.room ≡ purse.old.room }
         ensures fits { length purse.new.pages + length (held self.new) ≤ purse.new.room }
         ensures own { self.new.stored.room ≡ self.old.stored.room }
@@ -70,7 +70,7 @@ impl Lot {
         requires sound { IsSound (D.told disk.old) self.old (page ∷ purse.old.pages) }
         ensures cause { HasWriteCause (D.fault_count disk.old) (D.fault_count disk.new) result }
         ensures added { OnOk result (BothTold (D.told disk.old) (D.told disk.new)
-            (AddsText self.old self.new (part page))) }
+            (AddsText self.old self.new (used_bytes page))) }
         ensures pages { OnOk result (BothTold (D.told disk.old) (D.told disk.new) (PutsPage page self.old self.new)) }
         ensures keeps { BothTold (D.told disk.old) (D.told disk.new)
             (Keeps self.old self.new (page ∷ purse.old.pages) purse.new.pages) }

@@ -25,7 +25,7 @@ impl StoredPages {
         disk: &mut D,
     ) -> Result<(), StreamFault>
         requires len { length (X.seen row.now) < 2 ^ 32 }
-        requires supply { 0 < length purse.old.pages + length self.old.last }
+        requires supply { 0 < length purse.old.pages + length self.old.open_page }
         requires room { length purse.old.pages + length (held self.old) ≤ purse.old.room }
         requires sound { IsSound (D.told disk.old) self.old purse.old.pages }
         ensures cause { HasWriteCause (D.fault_count disk.old) (D.fault_count disk.new) result }
@@ -37,7 +37,7 @@ impl StoredPages {
             (Keeps self.old self.new purse.old.pages purse.new.pages) }
         ensures sound { IsSound (D.told disk.new) self.new purse.new.pages }
         ensures segments { MovesSegments self.old self.new purse.old.pages purse.new.pages }
-        ensures supply { OnOk result (0 < length purse.new.pages + length self.new.last) }
+        ensures supply { OnOk result (0 < length purse.new.pages + length self.new.open_page) }
         ensures room { purse.new.room ≡ purse.old.room }
         ensures fits { length purse.new.pages + length (held self.new) ≤ purse.new.room }
         ensures own { self.new.room ≡ self.old.room }
@@ -56,7 +56,7 @@ impl StoredPages {
         purse: &mut Purse,
         disk: &mut D,
     ) -> Result<(), StreamFault>
-        requires supply { 0 < length purse.old.pages + length self.old.last }
+        requires supply { 0 < length purse.old.pages + length self.old.open_page }
         requires room { length purse.old.pages + length (held self.old) ≤ purse.old.room }
         requires sound { IsSound (D.told disk.old) self.old purse.old.pages }
         ensures cause { HasWriteCause (D.fault_count disk.old) (D.fault_count disk.new) result }
@@ -68,7 +68,7 @@ impl StoredPages {
             (Keeps self.old self.new purse.old.pages purse.new.pages) }
         ensures sound { IsSound (D.told disk.new) self.new purse.new.pages }
         ensures segments { MovesSegments self.old self.new purse.old.pages purse.new.pages }
-        ensures supply { OnOk result (0 < length purse.new.pages + length self.new.last) }
+        ensures supply { OnOk result (0 < length purse.new.pages + length self.new.open_page) }
         ensures room { purse.new.room ≡ purse.old.room }
         ensures fits { length purse.new.pages + length (held self.new) ≤ purse.new.room }
         ensures own { self.new.room ≡ self.old.room }
@@ -92,7 +92,7 @@ impl StoredPages {
         purse: &mut Purse,
         disk: &mut D,
     ) -> Result<(), StreamFault>
-        requires supply { 0 < length purse.old.pages + length self.old.last }
+        requires supply { 0 < length purse.old.pages + length self.old.open_page }
         requires room { length purse.old.pages + length (held self.old) ≤ purse.old.room }
         requires sound { IsSound (D.told disk.old) self.old purse.old.pages }
         ensures cause { HasWriteCause (D.fault_count disk.old) (D.fault_count disk.new) result }
@@ -104,7 +104,7 @@ impl StoredPages {
             (Keeps self.old self.new purse.old.pages purse.new.pages) }
         ensures sound { IsSound (D.told disk.new) self.new purse.new.pages }
         ensures segments { MovesSegments self.old self.new purse.old.pages purse.new.pages }
-        ensures supply { OnOk result (0 < length purse.new.pages + length self.new.last) }
+        ensures supply { OnOk result (0 < length purse.new.pages + length self.new.open_page) }
         ensures room { purse.new.room ≡ purse.old.room }
         ensures fits { length purse.new.pages + length (held self.new) ≤ purse.new.room }
         ensures own { self.new.room ≡ self.old.room }
@@ -127,7 +127,7 @@ impl StoredPages {
         disk: &mut D,
     ) -> Result<usize, StreamFault>
         requires some { 0 < length bytes.now }
-        requires supply { 0 < length purse.old.pages + length self.old.last }
+        requires supply { 0 < length purse.old.pages + length self.old.open_page }
         requires room { length purse.old.pages + length (held self.old) ≤ purse.old.room }
         requires sound { IsSound (D.told disk.old) self.old purse.old.pages }
         ensures cause { HasWriteCause (D.fault_count disk.old) (D.fault_count disk.new) result }
@@ -141,7 +141,7 @@ impl StoredPages {
             (Keeps self.old self.new purse.old.pages purse.new.pages) }
         ensures sound { IsSound (D.told disk.new) self.new purse.new.pages }
         ensures segments { MovesSegments self.old self.new purse.old.pages purse.new.pages }
-        ensures supply { OnOk result (0 < length purse.new.pages + length self.new.last) }
+        ensures supply { OnOk result (0 < length purse.new.pages + length self.new.open_page) }
         ensures room { purse.new.room ≡ purse.old.room }
         ensures fits { length purse.new.pages + length (held self.new) ≤ purse.new.room }
         ensures own { self.new.room ≡ self.old.room }

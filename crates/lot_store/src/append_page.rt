@@ -4,7 +4,7 @@ ghost use Rattle.lot_store.specs.Keeping.{AddsPages, AddsText, Keeps, MovesSegme
 ghost use Rattle.page_feed.specs.Reach.{sizes_of};
 ghost use Rattle.lot_store.specs.Stores.{IsSound, held};
 ghost use Rattle.lot_store.specs.Spilling.{HasWriteCause};
-ghost use Rattle.paged_view.specs.Pages.{body, part, used};
+ghost use Rattle.paged_view.specs.Pages.{body, used_bytes, used};
 
 use crate::page::trim;
 use crate::stored::StoredPages;
@@ -28,7 +28,7 @@ impl StoredPages {
         requires sound { IsSound (D.told disk.old) self.old (page ∷ purse.old.pages) }
         ensures cause { HasWriteCause (D.fault_count disk.old) (D.fault_count disk.new) result }
         ensures added { OnOk result (BothTold (D.told disk.old) (D.told disk.new)
-            (AddsText self.old self.new (part page))) }
+            (AddsText self.old self.new (used_bytes page))) }
         ensures pages { OnOk result (BothTold (D.told disk.old) (D.told disk.new) (PutsPage page self.old self.new)) }
         ensures keeps { BothTold (D.told disk.old) (D.told disk.new)
             (Keeps self.old self.new (page ∷ purse.old.pages) purse.new.pages) }
@@ -58,10 +58,10 @@ impl StoredPages {
         requires sound { IsSound (D.told disk.old) self.old (page ∷ purse.old.pages) }
         ensures cause { HasWriteCause (D.fault_count disk.old) (D.fault_count disk.new) result }
         ensures added { OnOk result (BothTold (D.told disk.old) (D.told disk.new)
-            (AddsText self.old self.new (part page))) }
+            (AddsText self.old self.new (used_bytes page))) }
         ensures pages { OnOk result (BothTold (D.told disk.old) (D.told disk.new)
-            (AddsPages self.old self.new (sizes_of self.old.last))) }
-        ensures last { OnOk result (self.new.last ≡ page ∷ []) }
+            (AddsPages self.old self.new (sizes_of self.old.open_page))) }
+        ensures open_page { OnOk result (self.new.open_page ≡ page ∷ []) }
         ensures keeps { BothTold (D.told disk.old) (D.told disk.new)
             (Keeps self.old self.new (page ∷ purse.old.pages) purse.new.pages) }
         ensures segments { MovesSegments self.old self.new (page ∷ purse.old.pages) purse.new.pages }
@@ -69,7 +69,7 @@ impl StoredPages {
         ensures own { self.new.room ≡ self.old.room }
     {
         match self.take_last() {
-            Some(last) => self.push_behind(last, page, purse, disk),
+            Some(open_page) => self.push_behind(open_page, page, purse, disk),
             None => {
                 self.put_last(page);
                 Ok(())
@@ -80,31 +80,31 @@ impl StoredPages {
     // Stores the page that was under way, and makes another the one under way.
     fn push_behind<D: Spill>(
         &mut self,
-        last: Segment,
+        open_page: Segment,
         page: Segment,
         purse: &mut Purse,
         disk: &mut D,
     ) -> Result<(), StreamFault>
-        requires last_some { 0 < used last }
-        requires last_within { used last ≤ length (body last) }
+        requires last_some { 0 < used open_page }
+        requires last_within { used open_page ≤ length (body open_page) }
         requires some { 0 < used page }
         requires within { used page ≤ length (body page) }
-        requires none { self.old.last ≡ [] }
+        requires none { self.old.open_page ≡ [] }
         requires room { length purse.old.pages + (length (held self.old) + 2) ≤ purse.old.room }
-        requires sound { IsSound (D.told disk.old) self.old (page ∷ last ∷ purse.old.pages) }
+        requires sound { IsSound (D.told disk.old) self.old (page ∷ open_page ∷ purse.old.pages) }
         ensures cause { HasWriteCause (D.fault_count disk.old) (D.fault_count disk.new) result }
         ensures added { OnOk result (BothTold (D.told disk.old) (D.told disk.new)
-            (AddsText self.old self.new (part last ++ part page))) }
+            (AddsText self.old self.new (used_bytes open_page ++ used_bytes page))) }
         ensures pages { OnOk result (BothTold (D.told disk.old) (D.told disk.new)
-            (AddsPages self.old self.new (length (part last) ∷ []))) }
-        ensures last { OnOk result (self.new.last ≡ page ∷ []) }
+            (AddsPages self.old self.new (length (used_bytes open_page) ∷ []))) }
+        ensures open_page { OnOk result (self.new.open_page ≡ page ∷ []) }
         ensures keeps { BothTold (D.told disk.old) (D.told disk.new)
-            (Keeps self.old self.new (page ∷ last ∷ purse.old.pages) purse.new.pages) }
-        ensures segments { MovesSegments self.old self.new (page ∷ last ∷ purse.old.pages) purse.new.pages }
+            (Keeps self.old self.new (page ∷ open_page ∷ purse.old.pages) purse.new.pages) }
+        ensures segments { MovesSegments self.old self.new (page ∷ open_page ∷ purse.old.pages) purse.new.pages }
         ensures room { purse.new.room ≡ purse.old.room }
         ensures own { self.new.room ≡ self.old.room }
     {
-        match self.store(last, purse, disk) {
+        match self.store(open_page, purse, disk) {
             Ok(()) => {
                 self.put_last(page);
                 Ok(())

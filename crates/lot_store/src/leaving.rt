@@ -13,7 +13,7 @@ use segment_core::Purse;
 
 impl Lot {
     /// Stops reading, and leaves at most `room` segments in the lot, whatever it answers: the segments for
-    /// reading go to the purse, and the page under way is spilled exactly where the lot then still holds more,
+    /// reading go to the purse, and the open page is spilled exactly where the lot then still holds more,
     /// with one write.
     ///
     /// `Spill` only where the disk's count of faults rose in this call; what the lot stands for is then open.

@@ -1,8 +1,8 @@
 ghost use Rattle.std.specs.Prelude.{◌≡◌, ℕ, ◌+◌, ◌≤◌, [], IfOk, length};
 ghost use Rattle.lot_store.specs.Lots.{IsAtRest, IsRewound, empty, held, pages_of};
 ghost use Rattle.lot_store.specs.Reads.{BeginsAt, HandsOver};
-ghost use Rattle.page_feed.specs.Feeds.{IsStarted, kept_in, last_in, lent, stopped};
-ghost use Rattle.segment_core.specs.Segments.{weigh};
+ghost use Rattle.page_feed.specs.Feeds.{IsStarted, kept_in, open_page_in, lent, stopped};
+ghost use Rattle.segment_core.specs.Segments.{segment_sum};
 
 use crate::stored::StoredPages;
 use flow_outside::failure::Memory;
@@ -51,7 +51,7 @@ impl Lot {
         ensures stored { self.new.stored ≡ pages_of self.old }
         ensures feed { self.new.feed ≡ stopped self.old.feed.room self.old.feed.reach }
         ensures room { purse.new.room ≡ purse.old.room }
-        ensures segments { (h : ℕ → ℕ → ℕ) → weigh h purse.new.pages ≡ weigh h purse.old.pages + weigh h (lent self.old.feed) }
+        ensures segments { (h : ℕ → ℕ → ℕ) → segment_sum h purse.new.pages ≡ segment_sum h purse.old.pages + segment_sum h (lent self.old.feed) }
     {
         self.stored.take_back(&mut self.feed, purse);
     }
@@ -63,7 +63,7 @@ impl Lot {
         ensures begins { BeginsAt self.old self.new }
         ensures started { IsStarted self.new.feed }
         ensures room { purse.new.room ≡ purse.old.room }
-        ensures segments { (h : ℕ → ℕ → ℕ) → weigh h purse.new.pages + weigh h self.new.feed.blank ≡ weigh h purse.old.pages }
+        ensures segments { (h : ℕ → ℕ → ℕ) → segment_sum h purse.new.pages + segment_sum h self.new.feed.blank ≡ segment_sum h purse.old.pages }
     {
         self.stored.hand_over(&mut self.feed, purse);
     }

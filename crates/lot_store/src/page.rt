@@ -1,5 +1,5 @@
 ghost use Rattle.std.specs.Prelude.{◌≡◌, ◌+◌, ◌-◌, ◌^◌, ◌<◌, ◌≤◌, ◌↔◌, [], ◌++◌, min, length, take, IsTrue};
-ghost use Rattle.paged_view.specs.Pages.{body, part, used};
+ghost use Rattle.paged_view.specs.Pages.{body, used_bytes, used};
 ghost use Rattle.paged_view.specs.Writing.{written};
 ghost use Rattle.spool.specs.Headers.{IsSameSegment};
 
@@ -11,7 +11,7 @@ pub(crate) fn add_bytes(page: &mut Segment, bytes: &[u8]) -> usize
     requires { used page.old ≤ length (body page.old) }
     ensures count { result ≡ min (length bytes.now) (length (body page.old) - used page.old) }
     ensures used { used page.new ≡ used page.old + result }
-    ensures part { part page.new ≡ part page.old ++ take result bytes.now }
+    ensures used_bytes { used_bytes page.new ≡ used_bytes page.old ++ take result bytes.now }
     ensures same { IsSameSegment page.old page.new }
 {
     let filled = used_bytes(page).len();
@@ -27,7 +27,7 @@ pub(crate) fn add_bytes(page: &mut Segment, bytes: &[u8]) -> usize
 /// Forgets what the page holds.
 pub(crate) fn clear(page: &mut Segment)
     ensures used { used page.new ≡ 0 }
-    ensures part { part page.new ≡ [] }
+    ensures used_bytes { used_bytes page.new ≡ [] }
     ensures same { IsSameSegment page.old page.new }
 {
     set_used(page, 0);
@@ -37,8 +37,8 @@ pub(crate) fn clear(page: &mut Segment)
 pub(crate) fn trim(page: &mut Segment) -> usize
     ensures used { used page.new ≡ result }
     ensures within { used page.new ≤ length (body page.new) }
-    ensures part { part page.new ≡ part page.old }
-    ensures count { result ≡ length (part page.old) }
+    ensures used_bytes { used_bytes page.new ≡ used_bytes page.old }
+    ensures count { result ≡ length (used_bytes page.old) }
     ensures same { IsSameSegment page.old page.new }
 {
     let filled = used_bytes(page).len();

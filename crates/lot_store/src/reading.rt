@@ -7,7 +7,7 @@ ghost use Rattle.lot_store.specs.Lots.{HoldsRows, IsLeft, IsRewound, IsSound, St
 ghost use Rattle.page_feed.specs.Feeds.{HasLeft, block_of, lent, most_left as most_in};
 ghost use Rattle.paged_view.specs.Seen.{seen_in};
 ghost use Rattle.paged_view.specs.Streams.{Advances, KnowsRows};
-ghost use Rattle.segment_core.specs.Segments.{Page, weigh};
+ghost use Rattle.segment_core.specs.Segments.{SegmentView, segment_sum};
 
 use crate::lot::Lot;
 use flow_outside::failure::StreamFault;
@@ -72,7 +72,7 @@ impl<D: Spill> RecordStream<D> for Lot {
             (λ _. self.new.feed.shown ≡ None) }
         ensures later { most_in self.new.feed ≤ most_in self.old.feed }
         ensures falls { result ≡ Ok true → most_in self.new.feed < most_in self.old.feed }
-        ensures segments { (h : ℕ → ℕ → ℕ) → weigh h (segments_of self.new) ≡ weigh h (segments_of self.old) }
+        ensures segments { (h : ℕ → ℕ → ℕ) → segment_sum h (segments_of self.new) ≡ segment_sum h (segments_of self.old) }
         ensures tells { D.told disk.new ≡ D.told disk.old }
         ensures counted { D.given disk.new ≡ D.given disk.old }
         ensures cause { HasStreamCause (D.fault_count disk.old) (D.fault_count disk.new)
@@ -83,7 +83,7 @@ impl<D: Spill> RecordStream<D> for Lot {
         ensures reach { self.new.feed.reach ≡ self.old.feed.reach }
         ensures holds { IfTold (D.told disk.old) (λ blocks. (rows : List (List ℕ)) →
             HoldsRows blocks self.old rows → HoldsRows blocks self.new rows) }
-        ensures stands { IfTold (D.told disk.old) (λ blocks. (size : ℕ) (purse : List Page) →
+        ensures stands { IfTold (D.told disk.old) (λ blocks. (size : ℕ) (purse : List SegmentView) →
             StandsWith size self.old purse blocks → StandsWith size self.new purse blocks) }
     {
         self.feed.advance(disk)

@@ -5,8 +5,8 @@ ghost use Rattle.flow_outside.specs.Told.{IfTold};
 ghost use Rattle.lot_store.specs.Keeping.{AddsText, Keeps, KeepsOthers, KeepsSizes, MovesSegments};
 ghost use Rattle.lot_store.specs.Stores.{IsSound, held};
 ghost use Rattle.lot_store.specs.Spilling.{FreesBlocks, HasWriteCause, StandsAlone};
-ghost use Rattle.segment_core.specs.Segments.{weigh};
-ghost use Rattle.spool.specs.Changes.{IsFreed, LeavesOthers as LeavesBut};
+ghost use Rattle.segment_core.specs.Segments.{segment_sum};
+ghost use Rattle.spool.specs.Changes.{IsFreed, ForeignBlocksUnchanged as LeavesBut};
 
 use crate::stored::StoredPages;
 use flow_outside::failure::StreamFault;
@@ -16,7 +16,7 @@ use spool::discard::discard;
 use spool::run::Run;
 
 impl StoredPages {
-    /// Leaves at most `room` segments in the lot, whatever it answers. It spills the page under way exactly
+    /// Leaves at most `room` segments in the lot, whatever it answers. It spills the open page exactly
     /// where the lot holds more, with one write, and else does nothing.
     ///
     /// `Spill` only where the disk's count of faults rose in this call; what the lot stands for is then open.
@@ -89,7 +89,7 @@ fn end_run<D: Spill>(run: Run, purse: &mut Purse, disk: &mut D) -> Result<(), St
     ensures cause { HasStreamCause (D.fault_count disk.old) (D.fault_count disk.new) (D.told disk.old) result }
     ensures freed { OnOk result (BothTold (D.told disk.old) (D.told disk.new) (IsFreed run)) }
     ensures others { BothTold (D.told disk.old) (D.told disk.new) (LeavesBut run) }
-    ensures segments { (h : ℕ → ℕ → ℕ) → weigh h purse.new.pages ≡ weigh h purse.old.pages }
+    ensures segments { (h : ℕ → ℕ → ℕ) → segment_sum h purse.new.pages ≡ segment_sum h purse.old.pages }
     ensures room { purse.new.room ≡ purse.old.room }
 {
     match purse.take() {

@@ -3,7 +3,7 @@ ghost use Rattle.flow_outside.specs.Blocks.{BothTold};
 ghost use Rattle.flow_outside.specs.Causes.{HasCause};
 ghost use Rattle.flow_outside.specs.Told.{IfTold};
 ghost use Rattle.lot_store.specs.Spilling.{HasWriteCause, IsLonger, IsSpilled, IsUnchanged};
-ghost use Rattle.paged_view.specs.Pages.{body, part, used};
+ghost use Rattle.paged_view.specs.Pages.{body, used_bytes, used};
 ghost use Rattle.spool.specs.Headers.{IsSameSegment};
 ghost use Rattle.spool.specs.Runs.{IsWritten};
 
@@ -24,7 +24,7 @@ pub(crate) fn spill<D: Spill>(
     requires stands { IfTold (D.told disk.old) (λ blocks. IsSpilled blocks (length page.old.bytes) run.old) }
     ensures cause { HasWriteCause (D.fault_count disk.old) (D.fault_count disk.new) result }
     ensures same { IsSameSegment page.old page.new }
-    ensures part { part page.new ≡ part page.old }
+    ensures used_bytes { used_bytes page.new ≡ used_bytes page.old }
     ensures longer { OnOk result (BothTold (D.told disk.old) (D.told disk.new)
         (IsLonger (length page.old.bytes) run.old run.new page.new.bytes)) }
     ensures refused { OnErr result (BothTold (D.told disk.old) (D.told disk.new)
@@ -48,7 +48,7 @@ fn push_behind<D: Spill>(
     requires stands { IfTold (D.told disk.old) (λ blocks. IsWritten blocks (length page.old.bytes) writer) }
     ensures cause { HasWriteCause (D.fault_count disk.old) (D.fault_count disk.new) result }
     ensures same { IsSameSegment page.old page.new }
-    ensures part { part page.new ≡ part page.old }
+    ensures used_bytes { used_bytes page.new ≡ used_bytes page.old }
     ensures longer { OnOk result (BothTold (D.told disk.old) (D.told disk.new)
         (IsLonger (length page.old.bytes) (Some writer) run.new page.new.bytes)) }
     ensures refused { OnErr result (BothTold (D.told disk.old) (D.told disk.new)
@@ -78,7 +78,7 @@ fn push_first<D: Spill>(
     requires none { run.old ≡ None }
     ensures cause { HasWriteCause (D.fault_count disk.old) (D.fault_count disk.new) result }
     ensures same { IsSameSegment page.old page.new }
-    ensures part { part page.new ≡ part page.old }
+    ensures used_bytes { used_bytes page.new ≡ used_bytes page.old }
     ensures longer { OnOk result (BothTold (D.told disk.old) (D.told disk.new)
         (IsLonger (length page.old.bytes) None run.new page.new.bytes)) }
     ensures refused { OnErr result (BothTold (D.told disk.old) (D.told disk.new)
@@ -99,7 +99,7 @@ fn begin<D: Spill>(disk: &mut D, page: &mut Segment) -> Result<RunWriter, Failed
     requires within { used page.old ≤ length (body page.old) }
     ensures cause { HasCause (D.fault_count disk.old) (D.fault_count disk.new) result }
     ensures same { IsSameSegment page.old page.new }
-    ensures part { part page.new ≡ part page.old }
+    ensures used_bytes { used_bytes page.new ≡ used_bytes page.old }
     ensures longer { IfOk result (λ writer. BothTold (D.told disk.old) (D.told disk.new)
         (IsLonger (length page.old.bytes) None (Some writer) page.new.bytes)) }
     ensures refused { OnErr result (BothTold (D.told disk.old) (D.told disk.new)

@@ -1,13 +1,13 @@
 ghost use Rattle.std.specs.Prelude.{◌≡◌, All, ℕ, ◌+◌, ◌<◌, ◌≤◌, ◌↔◌, [], ◌∷◌, ◌++◌, None, IfOk, OnOk, OnErr, IfSome, IsTrue, length, option_to_list, vec_len, vec_capacity};
 ghost use Rattle.lot_store.specs.Keeping.{MovesSegments};
-ghost use Rattle.segment_core.specs.Segments.{weigh};
+ghost use Rattle.segment_core.specs.Segments.{segment_sum};
 ghost use Rattle.flow_outside.specs.Blocks.{BothTold};
 ghost use Rattle.flow_outside.specs.Told.{IfTold};
 ghost use Rattle.lot_store.specs.Stores.{ArePages, held};
 ghost use Rattle.lot_store.specs.Spilling.{HasWriteCause, IsLonger, IsSpilled, IsUnchanged};
 ghost use Rattle.lot_store.specs.Reads.{HandsOver};
-ghost use Rattle.page_feed.specs.Feeds.{IsStarted, kept_in, last_in, lent, stopped};
-ghost use Rattle.paged_view.specs.Pages.{body, page_at, part, used};
+ghost use Rattle.page_feed.specs.Feeds.{IsStarted, kept_in, open_page_in, lent, stopped};
+ghost use Rattle.paged_view.specs.Pages.{body, page_at, used_bytes, used};
 ghost use Rattle.spool.specs.Headers.{IsSameSegment};
 
 use crate::handing::{give_pages, reader_of, take_pages};
@@ -26,42 +26,42 @@ pub(crate) struct StoredPages {
     kept: Vec<Segment>,
     room: u32,
     run: Option<RunWriter>,
-    last: Vec<Segment>,
+    open_page: Vec<Segment>,
 }
 
 impl Model for StoredPages {
     ghost use Rattle.std.specs.Prelude.{vec_len, vec_capacity};
-    ghost use Rattle.lot_store.specs.Stores.{Stored, IsStore};
+    ghost use Rattle.lot_store.specs.Stores.{PagesView, IsStore};
 
-    ghost Value = { Stored };
+    ghost Value = { PagesView };
 
     ghost view = { λ l. record {
       room = l.room;
       kept = l.kept.items;
       run = l.run;
-      last = l.last.items;
+      open_page = l.open_page.items;
     } };
 
     ghost invariant = { λ l.
-        IsStore l.kept.items l.last.items (vec_len l.kept) (vec_capacity l.kept) l.room (vec_len l.last) (vec_capacity l.last) };
+        IsStore l.kept.items l.open_page.items (vec_len l.kept) (vec_capacity l.kept) l.room (vec_len l.open_page) (vec_capacity l.open_page) };
 }
 
 impl StoredPages {
     /// No pages, of which at most `room` full ones are kept in segments. It takes 32 bytes for each page that
     /// may be kept, and no call after it takes memory.
     pub(crate) fn open(alloc: Global, room: u32) -> Result<StoredPages, Memory>
-        ensures { IfOk result (λ lot. lot ≡ record { room = room; kept = []; run = None; last = [] }) }
+        ensures { IfOk result (λ lot. lot ≡ record { room = room; kept = []; run = None; open_page = [] }) }
     {
-        let last = Vec::with_capacity(alloc, 1)?;
+        let open_page = Vec::with_capacity(alloc, 1)?;
         match Vec::with_capacity(alloc, room as usize) {
             Ok(kept) => Ok(StoredPages {
                 kept,
                 room,
                 run: None,
-                last,
+                open_page,
             }),
             Err(_) => {
-                last.destroy_empty();
+                open_page.destroy_empty();
                 Err(Memory)
             }
         }
@@ -80,7 +80,7 @@ impl StoredPages {
     pub(crate) fn limits(&self)
         ensures { ArePages self.now }
     {
-        let _last = self.last.as_slice();
+        let _last = self.open_page.as_slice();
     }
 
     /// Keeps a page behind the others that are kept.
@@ -90,7 +90,7 @@ impl StoredPages {
         requires fits { length self.old.kept < self.old.room }
         ensures kept { self.new.kept ≡ self.old.kept ++ page ∷ [] }
         ensures run { self.new.run ≡ self.old.run }
-        ensures last { self.new.last ≡ self.old.last }
+        ensures open_page { self.new.open_page ≡ self.old.open_page }
         ensures room { self.new.room ≡ self.old.room }
     {
         self.kept.push_reserved(page);
@@ -107,13 +107,13 @@ impl StoredPages {
         requires stands { IfTold (D.told disk.old) (λ blocks. IsSpilled blocks (length page.old.bytes) self.old.run) }
         ensures cause { HasWriteCause (D.fault_count disk.old) (D.fault_count disk.new) result }
         ensures same { IsSameSegment page.old page.new }
-        ensures part { part page.new ≡ part page.old }
+        ensures used_bytes { used_bytes page.new ≡ used_bytes page.old }
         ensures longer { OnOk result (BothTold (D.told disk.old) (D.told disk.new)
             (IsLonger (length page.old.bytes) self.old.run self.new.run page.new.bytes)) }
         ensures refused { OnErr result (BothTold (D.told disk.old) (D.told disk.new)
             (IsUnchanged (length page.old.bytes) self.old.run self.new.run)) }
         ensures kept { self.new.kept ≡ self.old.kept }
-        ensures last { self.new.last ≡ self.old.last }
+        ensures open_page { self.new.open_page ≡ self.old.open_page }
         ensures own { self.new.room ≡ self.old.room }
     {
         spill(&mut self.run, disk, page)
@@ -123,7 +123,7 @@ impl StoredPages {
     pub(crate) fn fits_room(&self) -> bool
         ensures { IsTrue result ↔ (length (held self.now) ≤ self.now.room) }
     {
-        self.kept.len() + self.last.len() <= self.room as usize
+        self.kept.len() + self.open_page.len() <= self.room as usize
     }
 
     /// Puts all of its segments into a purse.
@@ -136,7 +136,7 @@ impl StoredPages {
         ensures own { self.new.room ≡ self.old.room }
     {
         give(&mut self.kept, purse);
-        give(&mut self.last, purse);
+        give(&mut self.open_page, purse);
     }
 
     /// Takes the run of its spilled pages out.
@@ -144,16 +144,16 @@ impl StoredPages {
         ensures run { result ≡ self.old.run }
         ensures none { self.new.run ≡ None }
         ensures kept { self.new.kept ≡ self.old.kept }
-        ensures last { self.new.last ≡ self.old.last }
+        ensures open_page { self.new.open_page ≡ self.old.open_page }
         ensures own { self.new.room ≡ self.old.room }
     {
         self.run.take()
     }
 
-    /// Takes the page under way out.
+    /// Takes the open page out.
     pub(crate) fn take_last(&mut self) -> Option<Segment>
-        ensures page { self.old.last ≡ option_to_list result }
-        ensures last { self.new.last ≡ [] }
+        ensures page { self.old.open_page ≡ option_to_list result }
+        ensures open_page { self.new.open_page ≡ [] }
         ensures fits { length self.new.kept ≤ self.new.room }
         ensures some { IfSome result (λ page. 0 < used page) }
         ensures within { IfSome result (λ page. used page ≤ length (body page)) }
@@ -161,41 +161,41 @@ impl StoredPages {
         ensures run { self.new.run ≡ self.old.run }
         ensures own { self.new.room ≡ self.old.room }
     {
-        self.last.pop()
+        self.open_page.pop()
     }
 
     /// Makes a page the one under way.
     pub(crate) fn put_last(&mut self, page: Segment)
-        requires none { self.old.last ≡ [] }
+        requires none { self.old.open_page ≡ [] }
         requires some { 0 < used page }
         requires within { used page ≤ length (body page) }
-        ensures last { self.new.last ≡ page ∷ [] }
+        ensures open_page { self.new.open_page ≡ page ∷ [] }
         ensures kept { self.new.kept ≡ self.old.kept }
         ensures run { self.new.run ≡ self.old.run }
         ensures own { self.new.room ≡ self.old.room }
     {
-        self.last.push_reserved(page);
+        self.open_page.push_reserved(page);
     }
 
     /// Takes the pages back that a feed has. The segments that it was lent go to the purse.
     pub(crate) fn take_back(&mut self, feed: &mut Feed, purse: &mut Purse)
-        requires whole { 0 < length (kept_in feed.old) + length (last_in feed.old) →
-            length self.old.kept + length self.old.last ≡ 0 }
+        requires whole { 0 < length (kept_in feed.old) + length (open_page_in feed.old) →
+            length self.old.kept + length self.old.open_page ≡ 0 }
         requires fits { length (kept_in feed.old) ≤ self.old.room }
-        requires filled { All (λ page. 0 < length (part page)) (kept_in feed.old) }
-        requires one { length (last_in feed.old) ≤ 1 }
-        requires some { 0 < length (last_in feed.old) → 0 < used (page_at (last_in feed.old) 0) }
-        requires within { used (page_at (last_in feed.old) 0) ≤ length (body (page_at (last_in feed.old) 0)) }
+        requires filled { All (λ page. 0 < length (used_bytes page)) (kept_in feed.old) }
+        requires one { length (open_page_in feed.old) ≤ 1 }
+        requires some { 0 < length (open_page_in feed.old) → 0 < used (page_at (open_page_in feed.old) 0) }
+        requires within { used (page_at (open_page_in feed.old) 0) ≤ length (body (page_at (open_page_in feed.old) 0)) }
         requires room { length purse.old.pages + length (lent feed.old) ≤ purse.old.room }
         ensures kept { self.new.kept ≡ self.old.kept ++ kept_in feed.old }
-        ensures last { self.new.last ≡ self.old.last ++ last_in feed.old }
+        ensures open_page { self.new.open_page ≡ self.old.open_page ++ open_page_in feed.old }
         ensures run { self.new.run ≡ self.old.run }
         ensures own { self.new.room ≡ self.old.room }
         ensures feed { feed.new ≡ stopped feed.old.room feed.old.reach }
         ensures room { purse.new.room ≡ purse.old.room }
-        ensures segments { (h : ℕ → ℕ → ℕ) → weigh h purse.new.pages ≡ weigh h purse.old.pages + weigh h (lent feed.old) }
+        ensures segments { (h : ℕ → ℕ → ℕ) → segment_sum h purse.new.pages ≡ segment_sum h purse.old.pages + segment_sum h (lent feed.old) }
     {
-        take_pages(&mut self.kept, &mut self.last, feed, purse);
+        take_pages(&mut self.kept, &mut self.open_page, feed, purse);
     }
 
     /// Hands all pages over to a feed, which takes segments from the purse to read spilled pages into.
@@ -206,15 +206,15 @@ impl StoredPages {
         ensures over { HandsOver self.old self.new feed.old feed.new }
         ensures started { IsStarted feed.new }
         ensures fits { length self.old.kept ≤ self.old.room }
-        ensures filled { All (λ page. 0 < length (part page)) self.old.kept }
-        ensures one { length self.old.last ≤ 1 }
-        ensures some { 0 < length self.old.last → 0 < used (page_at self.old.last 0) }
-        ensures within { used (page_at self.old.last 0) ≤ length (body (page_at self.old.last 0)) }
+        ensures filled { All (λ page. 0 < length (used_bytes page)) self.old.kept }
+        ensures one { length self.old.open_page ≤ 1 }
+        ensures some { 0 < length self.old.open_page → 0 < used (page_at self.old.open_page 0) }
+        ensures within { used (page_at self.old.open_page 0) ≤ length (body (page_at self.old.open_page 0)) }
         ensures room { purse.new.room ≡ purse.old.room }
-        ensures segments { (h : ℕ → ℕ → ℕ) → weigh h purse.new.pages + weigh h feed.new.blank ≡ weigh h purse.old.pages }
+        ensures segments { (h : ℕ → ℕ → ℕ) → segment_sum h purse.new.pages + segment_sum h feed.new.blank ≡ segment_sum h purse.old.pages }
     {
         let reader = reader_of(&self.run);
-        give_pages(&mut self.kept, &mut self.last, reader, feed, purse);
+        give_pages(&mut self.kept, &mut self.open_page, reader, feed, purse);
     }
 
     /// Ends them where they hold no segment.
@@ -225,10 +225,10 @@ impl StoredPages {
             kept,
             room: _,
             run: _,
-            last,
+            open_page,
         } = self;
         kept.destroy_empty();
-        last.destroy_empty();
+        open_page.destroy_empty();
     }
 }
 
@@ -239,7 +239,7 @@ fn give(pages: &mut Vec<Segment>, purse: &mut Purse)
     ensures len { vec_len pages.new ≡ 0 }
     ensures capacity { vec_capacity pages.new ≡ vec_capacity pages.old }
     ensures room { purse.new.room ≡ purse.old.room }
-    ensures segments { (h : ℕ → ℕ → ℕ) → weigh h purse.new.pages ≡ weigh h purse.old.pages + weigh h pages.old.items }
+    ensures segments { (h : ℕ → ℕ → ℕ) → segment_sum h purse.new.pages ≡ segment_sum h purse.old.pages + segment_sum h pages.old.items }
     ensures count { length purse.new.pages ≡ length purse.old.pages + length pages.old.items }
 {
     'pages: while let Some(page) = pages.pop() {

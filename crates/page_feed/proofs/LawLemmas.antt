@@ -29,8 +29,8 @@ touched_extends (suc n) (x ∷ xs) (y ∷ ys) (inl same) within =
     let more = touched_extends (suc n - x) xs ys same.1 (omega (arith, within)) in
     let at : touched (suc n - y) ys ≡ touched (suc n - x) ys = ap (λ k. touched (suc n - k) ys) (sym same.0) in
     omega (arith, more, at)
-touched_extends (suc n) (x ∷ xs) (y ∷ ys) (inr last) within =
-    let none : suc n - y ≡ 0 = omega (arith, within, last.1, ap total last.0) in
+touched_extends (suc n) (x ∷ xs) (y ∷ ys) (inr open_page) within =
+    let none : suc n - y ≡ 0 = omega (arith, within, open_page.1, ap total open_page.0) in
     let at : touched (suc n - y) ys ≡ 0 = ap (λ k. touched k ys) none in
     omega (arith, at)
 
@@ -48,13 +48,13 @@ behind_extends n (x ∷ xs) (y ∷ ys) (inl same) within = elim (cases_lt n x) [
       let two : behind n (y ∷ ys) ≡ behind (n - x) ys = behind_past n y ys (omega (arith, past, same.0)) ∙ ap (λ k. behind (n - k) ys) (sym same.0) in
       subst (λ zs. Extends zs (behind n (y ∷ ys))) (sym one) (subst (Extends (behind (n - x) xs)) (sym two) (behind_extends (n - x) xs ys same.1 (omega (arith, within))))
 ]
-behind_extends n (x ∷ xs) (y ∷ ys) (inr last) within = elim (cases_lt n x) [
+behind_extends n (x ∷ xs) (y ∷ ys) (inr open_page) within = elim (cases_lt n x) [
   | inl below ↦
       let one : behind n (x ∷ xs) ≡ (x - n) ∷ xs = behind_within n x xs below in
-      let two : behind n (y ∷ ys) ≡ (y - n) ∷ ys = behind_within n y ys (omega (arith, below, last.1)) in
-      subst (λ zs. Extends zs (behind n (y ∷ ys))) (sym one) (subst (Extends ((x - n) ∷ xs)) (sym two) (inr (last.0, omega (arith, last.1))))
+      let two : behind n (y ∷ ys) ≡ (y - n) ∷ ys = behind_within n y ys (omega (arith, below, open_page.1)) in
+      subst (λ zs. Extends zs (behind n (y ∷ ys))) (sym one) (subst (Extends ((x - n) ∷ xs)) (sym two) (inr (open_page.0, omega (arith, open_page.1))))
   | inr past ↦
-      let one : behind n (x ∷ xs) ≡ [] = behind_past n x xs past ∙ ap (behind (n - x)) last.0 in
+      let one : behind n (x ∷ xs) ≡ [] = behind_past n x xs past ∙ ap (behind (n - x)) open_page.0 in
       subst (λ zs. Extends zs (behind n (y ∷ ys))) (sym one) tt
 ]
 
@@ -73,13 +73,13 @@ within_extends reach xs ys (row ∷ rows) extends fits within =
 
 -- One record more is within reach where it is behind the others.
 within_more : (reach : ℕ) (ys : List ℕ) (rows : List (List ℕ)) (row : List ℕ) → behind 0 ys ≡ ys → IsWithinReach reach ys rows → touched (4 + length row) (behind (length (frames rows)) ys) ≤ reach → IsWithinReach reach ys (rows ++ row ∷ [])
-within_more reach ys [] row start within last =
-    (omega (arith, last, ap (touched (4 + length row)) start), tt)
-within_more reach ys (first ∷ rows) row start within last =
+within_more reach ys [] row start within open_page =
+    (omega (arith, open_page, ap (touched (4 + length row)) start), tt)
+within_more reach ys (first ∷ rows) row start within open_page =
     let at : behind (length (frames rows)) (behind (4 + length first) ys) ≡ behind (length (frames (first ∷ rows))) ys = behind-behind (length (frames rows)) (4 + length first) ys ∙ ap (λ n. behind n ys) (sym (length-frames first rows)) in
     let again : behind 0 (behind (4 + length first) ys) ≡ behind (4 + length first) ys = behind-behind 0 (4 + length first) ys ∙ ap (λ n. behind n ys) (let e : 4 + length first + 0 ≡ 4 + length first = omega arith in e) in (
       within.0,
-      within_more reach (behind (4 + length first) ys) rows row again within.1 (subst (λ zs. touched (4 + length row) zs ≤ reach) (sym at) last),
+      within_more reach (behind (4 + length first) ys) rows row again within.1 (subst (λ zs. touched (4 + length row) zs ≤ reach) (sym at) open_page),
     )
 
 -- No more pages are touched than there are.
@@ -129,10 +129,10 @@ starts_all page count [] after used some way = starts_tail page count after some
 starts_all page count (size ∷ stay) after used some way =
     starts size (stay ++ (replicate count page ++ after)) (used 0 0 (omega arith))
 
--- The page under way goes on in what stands behind the pages that stay.
-extends_last : (page count n : ℕ) (last after : List ℕ) → IsUnderWay page last → IsUnderWay page after → (count ≡ 0 → length last ≤ length after) → total (replicate count page ++ after) ≡ total last + n → Extends last (replicate count page ++ after)
+-- The open page goes on in what stands behind the pages that stay.
+extends_last : (page count n : ℕ) (open_page after : List ℕ) → IsUnderWay page open_page → IsUnderWay page after → (count ≡ 0 → length open_page ≤ length after) → total (replicate count page ++ after) ≡ total open_page + n → Extends open_page (replicate count page ++ after)
 extends_last page count n [] after way way' same more = tt
-extends_last page count n (size ∷ next ∷ last) after way way' same more =
+extends_last page count n (size ∷ next ∷ open_page) after way way' same more =
     absurd way
 extends_last page (suc count) n (size ∷ []) after way way' same more =
     inr (refl, way.1)
@@ -143,16 +143,16 @@ extends_last page zero n (size ∷ []) (size' ∷ []) way way' same more =
 extends_last page zero n (size ∷ []) (size' ∷ next ∷ after) way way' same more =
     absurd way'
 
-total-last : (page : ℕ) (last : List ℕ) → IsUnderWay page last → total last ≤ page
-total-last page [] way = omega arith
-total-last page (size ∷ []) way = omega (arith, way.1)
-total-last page (size ∷ next ∷ last) way = absurd way
+total-open_page : (page : ℕ) (open_page : List ℕ) → IsUnderWay page open_page → total open_page ≤ page
+total-open_page page [] way = omega arith
+total-open_page page (size ∷ []) way = omega (arith, way.1)
+total-open_page page (size ∷ next ∷ open_page) way = absurd way
 
 -- There are few pages behind those that stay.
-pages_few : (page count n : ℕ) (last after : List ℕ) → 0 < page → IsUnderWay page last → IsUnderWay page after → total (replicate count page ++ after) ≡ total last + n → length (replicate count page ++ after) ≤ (n + page - 1) / page + 1
-pages_few page count n last [] some way way' more =
-    let all : count * page ≡ total last + n = omega (arith, more, total-append (replicate count page) [], total-replicate count page) in
-    let least : (count - 1) * page ≤ n + page - 1 = few count (omega (arith, all, total-last page last way)) in
+pages_few : (page count n : ℕ) (open_page after : List ℕ) → 0 < page → IsUnderWay page open_page → IsUnderWay page after → total (replicate count page ++ after) ≡ total open_page + n → length (replicate count page ++ after) ≤ (n + page - 1) / page + 1
+pages_few page count n open_page [] some way way' more =
+    let all : count * page ≡ total open_page + n = omega (arith, more, total-append (replicate count page) [], total-replicate count page) in
+    let least : (count - 1) * page ≤ n + page - 1 = few count (omega (arith, all, total-open_page page open_page way)) in
     let q : count - 1 ≤ (n + page - 1) / page = (le-div_iff_mul-le {k = page} {x = count - 1} {y = n + page - 1} some).1 least in
     omega (arith, q, length-append (replicate count page) [], length-replicate count page)
   where
@@ -161,23 +161,23 @@ pages_few page count n last [] some way way' more =
     few (suc k) low =
         let same : suc k - 1 ≡ k = omega arith in
         omega (arith, low, suc-mul k page, some, ap (λ j. j * page) same)
-pages_few page count n last (size ∷ []) some way way' more =
-    let all : count * page + size ≡ total last + n = omega (arith, more, total-append (replicate count page) (size ∷ []), total-replicate count page) in
-    let q : count ≤ (n + page - 1) / page = (le-div_iff_mul-le {k = page} {x = count} {y = n + page - 1} some).1 (omega (arith, all, total-last page last way, way'.0)) in
+pages_few page count n open_page (size ∷ []) some way way' more =
+    let all : count * page + size ≡ total open_page + n = omega (arith, more, total-append (replicate count page) (size ∷ []), total-replicate count page) in
+    let q : count ≤ (n + page - 1) / page = (le-div_iff_mul-le {k = page} {x = count} {y = n + page - 1} some).1 (omega (arith, all, total-open_page page open_page way, way'.0)) in
     omega (arith, q, length-append (replicate count page) (size ∷ []), length-replicate count page)
-pages_few page count n last (size ∷ next ∷ after) some way way' more =
+pages_few page count n open_page (size ∷ next ∷ after) some way way' more =
     absurd way'
 
 pub appending_stays : AppendingStaysWithinReach
-appending_stays reach page count stay last after rows row grown filled near within =
-    let old : List ℕ = stay ++ last in
+appending_stays reach page count stay open_page after rows row grown filled near within =
+    let old : List ℕ = stay ++ open_page in
     let tail : List ℕ = replicate count page ++ after in
-    let more : total tail ≡ total last + (4 + length row) = omega (arith, grown.bytes, sum-total (stay ++ tail), sum-total old, total-append stay tail, total-append stay last) in
-    let full : length (frames rows) ≡ total stay + total last = omega (arith, filled, sum-total old, total-append stay last) in
-    let extends : Extends old (stay ++ tail) = extends_stay stay last tail (extends_last page count (4 + length row) last after grown.last_page grown.after_page grown.same_page more) in
-    let before : IsWithinReach reach (stay ++ tail) rows = within_extends reach old (stay ++ tail) rows extends (omega (arith, full, total-append stay last)) within in
-    let at : behind (length (frames rows)) (stay ++ tail) ≡ behind (total last) tail = ap (λ n. behind n (stay ++ tail)) full ∙ behind_stay (total last) stay tail in
-    let few : touched (4 + length row) (behind (total last) tail) ≤ length tail = omega (arith, touched_few (4 + length row) (behind (total last) tail), behind_few (total last) tail) in
-    let pages : length tail ≤ (4 + length row + page - 1) / page + 1 = pages_few page count (4 + length row) last after grown.some grown.last_page grown.after_page more in
+    let more : total tail ≡ total open_page + (4 + length row) = omega (arith, grown.bytes, sum-total (stay ++ tail), sum-total old, total-append stay tail, total-append stay open_page) in
+    let full : length (frames rows) ≡ total stay + total open_page = omega (arith, filled, sum-total old, total-append stay open_page) in
+    let extends : Extends old (stay ++ tail) = extends_stay stay open_page tail (extends_last page count (4 + length row) open_page after grown.last_page grown.after_page grown.same_page more) in
+    let before : IsWithinReach reach (stay ++ tail) rows = within_extends reach old (stay ++ tail) rows extends (omega (arith, full, total-append stay open_page)) within in
+    let at : behind (length (frames rows)) (stay ++ tail) ≡ behind (total open_page) tail = ap (λ n. behind n (stay ++ tail)) full ∙ behind_stay (total open_page) stay tail in
+    let few : touched (4 + length row) (behind (total open_page) tail) ≤ length tail = omega (arith, touched_few (4 + length row) (behind (total open_page) tail), behind_few (total open_page) tail) in
+    let pages : length tail ≤ (4 + length row + page - 1) / page + 1 = pages_few page count (4 + length row) open_page after grown.some grown.last_page grown.after_page more in
     within_more reach (stay ++ tail) rows row (starts_all page count stay after grown.used grown.some grown.after_page) before
     (omega (arith, ap (touched (4 + length row)) at, few, pages, near))

@@ -3,8 +3,8 @@ use Rattle.std.proofs.Common.{◌≡◌, ℕ, zero, suc, ◌+◌, ◌-◌, ◌<�
 use Rattle.std.proofs.lemmas.Bool.{cases_lt}
 use Rattle.std.proofs.lemmas.Bool.Decides.{nat_tests}
 use Rattle.std.proofs.lemmas.Grind.{flat_map-append}
-use Rattle.segment_core.specs.Segments.{Page}
-use Rattle.paged_view.specs.Pages.{part, parts}
+use Rattle.segment_core.specs.Segments.{SegmentView}
+use Rattle.paged_view.specs.Pages.{used_bytes, all_used_bytes}
 use Rattle.paged_view.specs.Reading.{has_spent}
 use Rattle.spool.specs.Headers.{as_page}
 use Rattle.spool.specs.Runs.{joined}
@@ -17,31 +17,31 @@ total (size ∷ sizes) = size + total sizes
 
 -- the sizes of pages that were read from a disk
 abbrev pub sizes_read : List (List ℕ) → List ℕ
-sizes_read pages = map (λ page. length (part (as_page page))) pages
+sizes_read pages = map (λ page. length (used_bytes (as_page page))) pages
 
 pub total-append : (xs ys : List ℕ) → total (xs ++ ys) ≡ total xs + total ys
 total-append [] ys = omega arith
 total-append (x ∷ xs) ys = omega (arith, total-append xs ys)
 
-pub total-sizes_of : (ps : List Page) → total (sizes_of ps) ≡ length (parts ps)
+pub total-sizes_of : (ps : List SegmentView) → total (sizes_of ps) ≡ length (all_used_bytes ps)
 total-sizes_of [] = refl
-total-sizes_of (p ∷ ps) = omega (arith, total-sizes_of ps, length-append (part p) (parts ps))
+total-sizes_of (p ∷ ps) = omega (arith, total-sizes_of ps, length-append (used_bytes p) (all_used_bytes ps))
 
 pub total-sizes_read : (pages : List (List ℕ)) → total (sizes_read pages) ≡ length (joined pages)
 total-sizes_read [] = refl
 total-sizes_read (page ∷ pages) =
-    omega (arith, total-sizes_read pages, length-append (part (as_page page)) (joined pages))
+    omega (arith, total-sizes_read pages, length-append (used_bytes (as_page page)) (joined pages))
 
-pub length-sizes_of : (ps : List Page) → length (sizes_of ps) ≡ length ps
+pub length-sizes_of : (ps : List SegmentView) → length (sizes_of ps) ≡ length ps
 length-sizes_of [] = refl
 length-sizes_of (p ∷ ps) = omega (arith, length-sizes_of ps)
 
-pub sizes-append : (ps qs : List Page) → sizes_of (ps ++ qs) ≡ sizes_of ps ++ sizes_of qs
+pub sizes-append : (ps qs : List SegmentView) → sizes_of (ps ++ qs) ≡ sizes_of ps ++ sizes_of qs
 sizes-append [] qs = refl
-sizes-append (p ∷ ps) qs = ap (λ sizes. length (part p) ∷ sizes) (sizes-append ps qs)
+sizes-append (p ∷ ps) qs = ap (λ sizes. length (used_bytes p) ∷ sizes) (sizes-append ps qs)
 
-pub parts-append : (ps qs : List Page) → parts (ps ++ qs) ≡ parts ps ++ parts qs
-parts-append ps qs = flat_map-append part ps qs
+pub all_used_bytes-append : (ps qs : List SegmentView) → all_used_bytes (ps ++ qs) ≡ all_used_bytes ps ++ all_used_bytes qs
+all_used_bytes-append ps qs = flat_map-append used_bytes ps qs
 
 -- the page in which the bytes end, and one that they pass
 pub behind_within : (count size : ℕ) (sizes : List ℕ) → count < size → behind count (size ∷ sizes) ≡ (size - count) ∷ sizes
@@ -69,24 +69,24 @@ touched_past (suc n) (x ∷ xs) ys some within =
     let more = touched_past (suc n - x) xs ys (omega (arith, some)) (omega (arith, within)) in omega (arith, more)
 
 -- bytes of the first page in a reader weren't read, or all were
-pub unspent_more : (text : List ℕ) (p : Page) (ps : List Page) → has_spent text (p ∷ ps) ≡ false → length (parts ps) < length text
+pub unspent_more : (text : List ℕ) (p : SegmentView) (ps : List SegmentView) → has_spent text (p ∷ ps) ≡ false → length (all_used_bytes ps) < length text
 unspent_more text p ps unspent =
-    let e : nat_le (length text) (length (parts ps)) ≡ false = unspent in grind (arith, nat_tests)
+    let e : nat_le (length text) (length (all_used_bytes ps)) ≡ false = unspent in grind (arith, nat_tests)
 
-pub spent_less : (text : List ℕ) (p : Page) (ps : List Page) → has_spent text (p ∷ ps) ≡ true → length text ≤ length (parts ps)
+pub spent_less : (text : List ℕ) (p : SegmentView) (ps : List SegmentView) → has_spent text (p ∷ ps) ≡ true → length text ≤ length (all_used_bytes ps)
 spent_less text p ps spent =
-    let e : nat_le (length text) (length (parts ps)) ≡ true = spent in grind (arith, nat_tests)
+    let e : nat_le (length text) (length (all_used_bytes ps)) ≡ true = spent in grind (arith, nat_tests)
 
 -- what is left of the pages in a reader, of which the first isn't read whole
-pub behind_unspent : (text : List ℕ) (p : Page) (ps : List Page) (ys : List ℕ) → has_spent text (p ∷ ps) ≡ false → length text ≤ length (parts (p ∷ ps)) → behind (length (parts (p ∷ ps)) - length text) (sizes_of (p ∷ ps) ++ ys) ≡ (length (part p) - (length (parts (p ∷ ps)) - length text)) ∷ (sizes_of ps ++ ys)
+pub behind_unspent : (text : List ℕ) (p : SegmentView) (ps : List SegmentView) (ys : List ℕ) → has_spent text (p ∷ ps) ≡ false → length text ≤ length (all_used_bytes (p ∷ ps)) → behind (length (all_used_bytes (p ∷ ps)) - length text) (sizes_of (p ∷ ps) ++ ys) ≡ (length (used_bytes p) - (length (all_used_bytes (p ∷ ps)) - length text)) ∷ (sizes_of ps ++ ys)
 behind_unspent text p ps ys unspent within =
-    let more : length (parts ps) < length text = unspent_more text p ps unspent in
-    behind_within (length (parts (p ∷ ps)) - length text) (length (part p)) (sizes_of ps ++ ys) (omega (arith, more, within, length-append (part p) (parts ps)))
+    let more : length (all_used_bytes ps) < length text = unspent_more text p ps unspent in
+    behind_within (length (all_used_bytes (p ∷ ps)) - length text) (length (used_bytes p)) (sizes_of ps ++ ys) (omega (arith, more, within, length-append (used_bytes p) (all_used_bytes ps)))
 
-pub behind_sum : (text : List ℕ) (p : Page) (ps : List Page) → has_spent text (p ∷ ps) ≡ false → length text ≤ length (parts (p ∷ ps)) → (length (part p) - (length (parts (p ∷ ps)) - length text)) + total (sizes_of ps) ≡ length text
+pub behind_sum : (text : List ℕ) (p : SegmentView) (ps : List SegmentView) → has_spent text (p ∷ ps) ≡ false → length text ≤ length (all_used_bytes (p ∷ ps)) → (length (used_bytes p) - (length (all_used_bytes (p ∷ ps)) - length text)) + total (sizes_of ps) ≡ length text
 behind_sum text p ps unspent within =
-    let more : length (parts ps) < length text = unspent_more text p ps unspent in
-    omega (arith, more, within, length-append (part p) (parts ps), total-sizes_of ps)
+    let more : length (all_used_bytes ps) < length text = unspent_more text p ps unspent in
+    omega (arith, more, within, length-append (used_bytes p) (all_used_bytes ps), total-sizes_of ps)
 
 -- what stands behind some bytes, and behind more of them
 pub behind-behind : (n count : ℕ) (sizes : List ℕ) → behind n (behind count sizes) ≡ behind (count + n) sizes

@@ -1,11 +1,11 @@
 -- How many pages a record touches. The rules are this project's own.
 use Rattle.std.specs.Prelude.{ℕ, zero, suc, ◌+◌, ◌-◌, ◌≤◌, nat_lt, cond, List, [], ◌∷◌, map, length, ⊤}
-use Rattle.segment_core.specs.Segments.{Page}
-use Rattle.paged_view.specs.Pages.{part}
+use Rattle.segment_core.specs.Segments.{SegmentView}
+use Rattle.paged_view.specs.Pages.{used_bytes}
 
 -- Pages are seen here as the numbers of their used bytes, one page after the other.
-abbrev pub sizes_of : List Page → List ℕ
-sizes_of pages = map (λ page. length (part page)) pages
+abbrev pub sizes_of : List SegmentView → List ℕ
+sizes_of pages = map (λ page. length (used_bytes page)) pages
 
 -- How many pages the first `count` bytes touch. Bytes past the last page touch none.
 abbrev pub touched : (count : ℕ) → List ℕ → ℕ

@@ -3,9 +3,9 @@ ghost use Rattle.flow_outside.specs.Causes.{HasStreamCause};
 ghost use Rattle.flow_outside.specs.Told.{IfTold};
 ghost use Rattle.paged_view.specs.Reading.{HasRecord};
 ghost use Rattle.paged_view.specs.Streams.{Advances};
-ghost use Rattle.segment_core.specs.Segments.{misfits, weigh};
+ghost use Rattle.segment_core.specs.Segments.{count_other_size, segment_sum};
 ghost use Rattle.page_feed.specs.Feeding.{GoesOn, IsKnown, IsStuck, pages_to_give};
-ghost use Rattle.page_feed.specs.Feeds.{HasBlockLeft, HasLeft, IsLeftReadable, IsStarted, block_of, kept_in, last_in, lent, most_left};
+ghost use Rattle.page_feed.specs.Feeds.{HasBlockLeft, HasLeft, IsLeftReadable, IsStarted, block_of, kept_in, open_page_in, lent, most_left};
 
 use crate::feed::Feed;
 use flow_outside::failure::StreamFault;
@@ -29,13 +29,13 @@ impl Feed {
         ensures later { most_left self.new ≤ most_left self.old }
         ensures falls { result ≡ Ok true → most_left self.new < most_left self.old }
         ensures kept { kept_in self.new ≡ kept_in self.old }
-        ensures last { last_in self.new ≡ last_in self.old }
-        ensures lent { (h : ℕ → ℕ → ℕ) → weigh h (lent self.new) ≡ weigh h (lent self.old) }
+        ensures open_page { open_page_in self.new ≡ open_page_in self.old }
+        ensures lent { (h : ℕ → ℕ → ℕ) → segment_sum h (lent self.new) ≡ segment_sum h (lent self.old) }
         ensures own { (self.new.room ≡ self.old.room) × (self.new.reach ≡ self.old.reach) }
         ensures among { IfTold (D.told disk.old) (λ blocks. (block : ℕ) →
             HasBlockLeft blocks self.new.run block → HasBlockLeft blocks self.old.run block) }
         ensures readable { IfTold (D.told disk.old) (λ blocks. (size : ℕ) →
-            misfits size self.old.blank ≡ 0 → misfits size (lent self.old) ≡ 0 →
+            count_other_size size self.old.blank ≡ 0 → count_other_size size (lent self.old) ≡ 0 →
             IsLeftReadable blocks size self.old.run → IsLeftReadable blocks size self.new.run) }
         ensures tells { D.told disk.new ≡ D.told disk.old }
         ensures counted { D.given disk.new ≡ D.given disk.old }

@@ -11,7 +11,7 @@ use spool::reader::RunReader;
 use std::alloc::Global;
 use std::marker::Model;
 
-/// Reads the records of kept pages, of the pages of a run and of the page under way, in this order. The
+/// Reads the records of kept pages, of the pages of a run and of the open page, in this order. The
 /// pages of the run are read one by one into segments that it was lent. It may not be let go: `stop`
 /// gives back what it holds, and `end` ends it.
 pub struct Feed {
@@ -20,8 +20,8 @@ pub struct Feed {
     pub(crate) passed: Vec<Segment>,
     // those that weren't given to the reader yet, the next one last
     pub(crate) ahead: Vec<Segment>,
-    // the page under way, where the reader doesn't have it
-    pub(crate) last: Vec<Segment>,
+    // the open page, where the reader doesn't have it
+    pub(crate) open_page: Vec<Segment>,
     pub(crate) blank: Vec<Segment>,
     pub(crate) run: Option<RunReader>,
     pub(crate) of_kept: usize,
@@ -33,10 +33,10 @@ pub struct Feed {
 
 impl Model for Feed {
     ghost use Rattle.std.specs.Prelude.{Some, None, cond, reverse, vec_len, vec_capacity};
-    ghost use Rattle.page_feed.specs.Feeds.{Fed};
+    ghost use Rattle.page_feed.specs.Feeds.{FeedView};
     ghost use Rattle.page_feed.specs.Feeding.{IsFeed};
 
-    ghost Value = { Fed };
+    ghost Value = { FeedView };
 
     ghost view = { λ f. record {
       room = f.room;
@@ -47,14 +47,14 @@ impl Model for Feed {
       of_run = f.of_run;
       ahead = reverse f.ahead.items;
       run = f.run;
-      last = f.last.items;
+      open_page = f.open_page.items;
       blank = f.blank.items;
       shown = cond f.is_shown (Some f.reader.head) None;
     } };
 
     ghost invariant = { λ f. IsFeed f.room f.reach f.reader f.of_kept f.of_run f.run
         (vec_len f.passed) (vec_capacity f.passed) (vec_len f.ahead) (vec_capacity f.ahead)
-        (vec_len f.last) (vec_capacity f.last) (vec_len f.blank) (vec_capacity f.blank) };
+        (vec_len f.open_page) (vec_capacity f.open_page) (vec_len f.blank) (vec_capacity f.blank) };
 }
 
 impl Feed {
@@ -65,11 +65,11 @@ impl Feed {
     {
         let (passed, ahead) = reserve(alloc, room, room)?;
         match open_rest(alloc, reach) {
-            Ok((reader, last, blank)) => Ok(Feed {
+            Ok((reader, open_page, blank)) => Ok(Feed {
                 reader,
                 passed,
                 ahead,
-                last,
+                open_page,
                 blank,
                 run: None,
                 of_kept: 0,
@@ -116,7 +116,7 @@ impl Feed {
             reader,
             passed,
             ahead,
-            last,
+            open_page,
             blank,
             run: _,
             of_kept: _,
@@ -128,7 +128,7 @@ impl Feed {
         end_reader(reader);
         passed.destroy_empty();
         ahead.destroy_empty();
-        last.destroy_empty();
+        open_page.destroy_empty();
         blank.destroy_empty();
     }
 }
@@ -136,14 +136,14 @@ impl Feed {
 // What a feed has beside its lists of kept pages.
 fn open_rest(alloc: Global, reach: u32) -> Result<(PageReader, Vec<Segment>, Vec<Segment>), Memory>
     ensures reader { IfOk result (λ rest. rest.0 ≡ record { room = reach; pages = []; head = []; text = [] }) }
-    ensures last { IfOk result (λ rest. (rest.1.items ≡ []) × (vec_len rest.1 ≡ 0) × (1 ≤ vec_capacity rest.1)) }
+    ensures open_page { IfOk result (λ rest. (rest.1.items ≡ []) × (vec_len rest.1 ≡ 0) × (1 ≤ vec_capacity rest.1)) }
     ensures blank { IfOk result (λ rest. (rest.2.items ≡ []) × (vec_len rest.2 ≡ 0) × (reach ≤ vec_capacity rest.2)) }
 {
-    let (last, blank) = reserve(alloc, 1, reach)?;
+    let (open_page, blank) = reserve(alloc, 1, reach)?;
     match reserve_reader(alloc, reach) {
-        Ok(reader) => Ok((reader, last, blank)),
+        Ok(reader) => Ok((reader, open_page, blank)),
         Err(Memory) => {
-            last.destroy_empty();
+            open_page.destroy_empty();
             blank.destroy_empty();
             Err(Memory)
         }

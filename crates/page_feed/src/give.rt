@@ -2,7 +2,7 @@ ghost use Rattle.std.specs.Prelude.{◌≡◌, ◌↔◌, ℕ, ◌+◌, ◌<◌,
 ghost use Rattle.flow_outside.specs.Blocks.{Blocks};
 ghost use Rattle.flow_outside.specs.Causes.{HasStreamCause};
 ghost use Rattle.flow_outside.specs.Told.{IfTold};
-ghost use Rattle.paged_view.specs.Pages.{part};
+ghost use Rattle.paged_view.specs.Pages.{used_bytes};
 ghost use Rattle.paged_view.specs.Reading.{HasRecord, first_record, moved};
 ghost use Rattle.spool.specs.Headers.{IsSameSegment};
 ghost use Rattle.page_feed.specs.Feeding.{GoesOn, IsFed, IsGivenOut, IsKnown, IsPutAway, PutsAway, pages_to_give};
@@ -37,7 +37,7 @@ impl Feed {
         }
     }
 
-    /// Puts all pages in the reader away that were read, but for the page under way.
+    /// Puts all pages in the reader away that were read, but for the open page.
     pub(crate) fn put_all_away(&mut self)
         requires { self.old.shown ≡ None }
         ensures puts { PutsAway self.old self.new }
@@ -227,8 +227,8 @@ impl Feed {
           reader = self.new.reader;
         } }
         ensures pages { self.new.reader.pages ≡ self.old.reader.pages ++ page ∷ [] }
-        ensures text { self.new.reader.text ≡ self.old.reader.text ++ part page }
-        ensures most { length (part page) ≤ 32752 }
+        ensures text { self.new.reader.text ≡ self.old.reader.text ++ used_bytes page }
+        ensures most { length (used_bytes page) ≤ 32752 }
     {
         let _used = used_bytes(&page);
         self.of_run += 1;
@@ -243,7 +243,7 @@ impl Feed {
         self.blank.push_reserved(page);
     }
 
-    // Gives the reader the page under way: false where there is none.
+    // Gives the reader the open page: false where there is none.
     fn give_last(&mut self) -> bool
         requires space { length self.old.reader.pages < self.old.reach }
         requires out { self.old.ahead ≡ [] }
@@ -252,10 +252,10 @@ impl Feed {
         ensures goes { (told : Option Blocks) → GoesOn told self.old self.new }
         ensures fewer { IsTrue result → pages_to_give self.new < pages_to_give self.old }
         ensures stays { result ≡ false → self.new ≡ self.old }
-        ensures out { result ≡ false → self.old.last ≡ [] }
+        ensures out { result ≡ false → self.old.open_page ≡ [] }
         ensures none { self.new.shown ≡ None }
     {
-        let Some(page) = self.last.pop() else {
+        let Some(page) = self.open_page.pop() else {
             return false;
         };
         self.reader.give(page);

@@ -1,5 +1,5 @@
 ghost use Rattle.std.specs.Prelude.{◌≡◌, ℕ, ◌+◌, ◌≤◌, [], ◌++◌, length, reverse, take, drop, vec_len, vec_capacity, IfOk};
-ghost use Rattle.segment_core.specs.Segments.{weigh};
+ghost use Rattle.segment_core.specs.Segments.{segment_sum};
 
 use flow_outside::failure::Memory;
 use paged_view::reader::PageReader;
@@ -66,7 +66,7 @@ pub(crate) fn lend(purse: &mut Purse, count: u32, to: &mut Vec<Segment>)
     ensures capacity { vec_capacity to.new ≡ vec_capacity to.old }
     ensures room { purse.new.room ≡ purse.old.room }
     ensures segments { (h : ℕ → ℕ → ℕ) →
-        weigh h purse.new.pages + weigh h to.new.items ≡ weigh h purse.old.pages + weigh h to.old.items }
+        segment_sum h purse.new.pages + segment_sum h to.new.items ≡ segment_sum h purse.old.pages + segment_sum h to.old.items }
 {
     for _ in 0..count {
         match purse.take() {
@@ -84,7 +84,7 @@ pub(crate) fn give_back(from: &mut Vec<Segment>, purse: &mut Purse)
     ensures capacity { vec_capacity from.new ≡ vec_capacity from.old }
     ensures room { purse.new.room ≡ purse.old.room }
     ensures segments { (h : ℕ → ℕ → ℕ) →
-        weigh h purse.new.pages ≡ weigh h purse.old.pages + weigh h from.old.items }
+        segment_sum h purse.new.pages ≡ segment_sum h purse.old.pages + segment_sum h from.old.items }
 {
     'segments: while let Some(segment) = from.pop() {
         purse.put(segment);
@@ -118,7 +118,7 @@ pub(crate) fn withdraw_lent(reader: &mut PageReader, count: usize, purse: &mut P
     ensures purse_room { purse.new.room ≡ purse.old.room }
     ensures count { length purse.new.pages ≡ length purse.old.pages + count }
     ensures segments { (h : ℕ → ℕ → ℕ) →
-        weigh h purse.new.pages ≡ weigh h purse.old.pages + weigh h (take count reader.old.pages) }
+        segment_sum h purse.new.pages ≡ segment_sum h purse.old.pages + segment_sum h (take count reader.old.pages) }
 {
     for _ in 0..count {
         match reader.withdraw() {

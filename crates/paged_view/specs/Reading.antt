@@ -1,14 +1,14 @@
 -- What a reader of pages holds.
 use Rattle.std.specs.Prelude.{ℕ, ◌+◌, ◌^◌, ◌<◌, ◌≤◌, Bool, false, List, [], ◌∷◌, length, take, drop, nat_le}
 use Rattle.std.specs.Int.{from_be_bytes, w32}
-use Rattle.segment_core.specs.Segments.{Page}
-use Rattle.paged_view.specs.Pages.{part, parts, page_at}
+use Rattle.segment_core.specs.Segments.{SegmentView}
+use Rattle.paged_view.specs.Pages.{used_bytes, all_used_bytes, page_at}
 
 -- A reader is seen as the most pages that it may hold, the pages that it holds, the oldest first, the record that it
 -- gave last, and its text: the used bytes of its pages that weren't read yet.
 pub record Reading : Type 0 where
   pub room : ℕ
-  pub pages : List Page
+  pub pages : List SegmentView
   pub head : List ℕ
   pub text : List ℕ
 
@@ -33,21 +33,21 @@ abbrev pub moved : Reading → Reading
 moved r = record r { head = first_record r.text; text = after_first r.text }
 
 -- All bytes of the oldest page were read: no more of them are left than the other pages have.
-abbrev pub has_spent : List ℕ → List Page → Bool
+abbrev pub has_spent : List ℕ → List SegmentView → Bool
 has_spent text [] = false
-has_spent text (p ∷ ps) = nat_le (length text) (length (parts ps))
+has_spent text (p ∷ ps) = nat_le (length text) (length (all_used_bytes ps))
 
 -- the used bytes of pages from byte `off` of page `page` on
-abbrev pub unread : List Page → ℕ → ℕ → List ℕ
-unread ps page off = drop off (parts (drop page ps))
+abbrev pub unread : List SegmentView → ℕ → ℕ → List ℕ
+unread ps page off = drop off (all_used_bytes (drop page ps))
 
 -- What is true of every reader: its list of pages, of `len`, has space reserved for its room, its place is in one of its
 -- pages, or behind them, and the record that it gave last stands there, `pending` bytes long. The numbers of its place
 -- are far from the end of their type.
-pub record IsReader (pages : List Page) (len capacity room page off pending : ℕ) : Type 0 where
+pub record IsReader (pages : List SegmentView) (len capacity room page off pending : ℕ) : Type 0 where
   pub fits : len ≤ room
   pub reserved : room ≤ capacity
   pub among : page ≤ len
-  pub within : off ≤ length (part (page_at pages page))
-  pub whole : off + pending ≤ length (parts (drop page pages))
+  pub within : off ≤ length (used_bytes (page_at pages page))
+  pub whole : off + pending ≤ length (all_used_bytes (drop page pages))
   pub small : off + pending < 2 ^ 34

@@ -1,5 +1,5 @@
 ghost use Rattle.std.specs.Prelude.{◌≡◌, ◌+◌, ◌^◌, ◌<◌, ◌≤◌, length};
-ghost use Rattle.paged_view.specs.Pages.{body, used, part};
+ghost use Rattle.paged_view.specs.Pages.{body, used, used_bytes};
 ghost use Rattle.paged_view.specs.Writing.{written};
 
 use segment_core::Segment;
@@ -19,7 +19,7 @@ pub fn body_of(page: &Segment) -> &[u8]
 /// The used bytes of a page: as many behind its header as the header says, and all of them where it
 /// says more. It costs nothing.
 pub fn used_bytes(page: &Segment) -> &[u8]
-    ensures value { result.now ≡ part page.now }
+    ensures value { result.now ≡ used_bytes page.now }
     ensures most { length result.now ≤ 32752 }
 {
     let bytes = page.bytes();

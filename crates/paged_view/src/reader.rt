@@ -1,7 +1,7 @@
 ghost use Rattle.std.specs.Prelude.{◌≡◌, ℕ, ◌+◌, ◌-◌, ◌^◌, ◌<◌, ◌≤◌, ◌↔◌, [], ◌∷◌, ◌++◌, length, take, drop, vec_len, vec_capacity, IsTrue, IsSome, IsOk, IfOk, OnOk, OnErr, OnSome, IfSome, IfNone, MatchOption, is_some, option_to_list};
 ghost use Rattle.std.specs.Borrow.{sem};
-ghost use Rattle.segment_core.specs.Segments.{weigh};
-ghost use Rattle.paged_view.specs.Pages.{part, parts, page_at};
+ghost use Rattle.segment_core.specs.Segments.{segment_sum};
+ghost use Rattle.paged_view.specs.Pages.{used_bytes, all_used_bytes, page_at};
 ghost use Rattle.paged_view.specs.Reading.{size_of, HasRecord, first_record, moved, has_spent, unread};
 ghost use Rattle.paged_view.specs.Seen.{seen_in};
 
@@ -70,10 +70,10 @@ impl PageReader {
         requires { length self.old.pages < self.old.room }
         ensures pages { self.new.pages ≡ self.old.pages ++ page ∷ [] }
         ensures head { self.new.head ≡ self.old.head }
-        ensures text { self.new.text ≡ self.old.text ++ part page }
+        ensures text { self.new.text ≡ self.old.text ++ used_bytes page }
         ensures room { self.new.room ≡ self.old.room }
         ensures segments { (h : ℕ → ℕ → ℕ) →
-            weigh h self.new.pages ≡ weigh h self.old.pages + weigh h (page ∷ []) }
+            segment_sum h self.new.pages ≡ segment_sum h self.old.pages + segment_sum h (page ∷ []) }
     {
         self.pages.push_reserved(page);
     }
@@ -138,7 +138,7 @@ impl PageReader {
         ensures head { OnSome result (self.new.head ≡ []) }
         ensures room { self.new.room ≡ self.old.room }
         ensures segments { (h : ℕ → ℕ → ℕ) →
-            weigh h self.new.pages + weigh h (option_to_list result) ≡ weigh h self.old.pages }
+            segment_sum h self.new.pages + segment_sum h (option_to_list result) ≡ segment_sum h self.old.pages }
     {
         let place = place_at(&self.pages, self.page, self.off + self.pending);
         if place.page == 0 {
@@ -155,11 +155,11 @@ impl PageReader {
     pub fn withdraw(&mut self) -> Option<Segment>
         ensures some { IsSome result ↔ (0 < length self.old.pages) }
         ensures pages { self.old.pages ≡ option_to_list result ++ self.new.pages }
-        ensures text { self.new.text ≡ parts self.new.pages }
+        ensures text { self.new.text ≡ all_used_bytes self.new.pages }
         ensures head { self.new.head ≡ [] }
         ensures room { self.new.room ≡ self.old.room }
         ensures segments { (h : ℕ → ℕ → ℕ) →
-            weigh h self.new.pages + weigh h (option_to_list result) ≡ weigh h self.old.pages }
+            segment_sum h self.new.pages + segment_sum h (option_to_list result) ≡ segment_sum h self.old.pages }
     {
         self.page = 0;
         self.off = 0;
@@ -204,12 +204,12 @@ impl PageReader {
 // last page.
 fn place_at(pages: &Vec<Segment>, page: usize, at: usize) -> Place
     requires among { page ≤ vec_len pages.now }
-    requires within { at ≤ length (parts (drop page pages.now.items)) }
+    requires within { at ≤ length (all_used_bytes (drop page pages.now.items)) }
     ensures same { unread pages.now.items result.page result.off ≡ unread pages.now.items page at }
     ensures among { result.page ≤ vec_len pages.now }
-    ensures within { result.off ≤ length (part (page_at pages.now.items result.page)) }
+    ensures within { result.off ≤ length (used_bytes (page_at pages.now.items result.page)) }
     ensures byte { result.page < vec_len pages.now
-        → result.off < length (part (page_at pages.now.items result.page)) }
+        → result.off < length (used_bytes (page_at pages.now.items result.page)) }
     ensures small { result.off ≤ 32752 }
     ensures later { page ≤ result.page }
 {
@@ -229,7 +229,7 @@ fn place_at(pages: &Vec<Segment>, page: usize, at: usize) -> Place
 // The length of the record that begins at a place, where it is whole.
 fn whole_len(pages: &Vec<Segment>, place: Place) -> Option<usize>
     requires among { place.page ≤ vec_len pages.now }
-    requires within { place.off ≤ length (part (page_at pages.now.items place.page)) }
+    requires within { place.off ≤ length (used_bytes (page_at pages.now.items place.page)) }
     requires small { place.off ≤ 32752 }
     ensures whole { MatchOption result
         (HasRecord (unread pages.now.items place.page place.off) → ⊥)
@@ -251,7 +251,7 @@ fn whole_len(pages: &Vec<Segment>, place: Place) -> Option<usize>
 // Whether so many bytes stand from a place on.
 fn reaches(pages: &Vec<Segment>, place: Place, need: usize) -> bool
     requires among { place.page ≤ vec_len pages.now }
-    requires within { place.off ≤ length (part (page_at pages.now.items place.page)) }
+    requires within { place.off ≤ length (used_bytes (page_at pages.now.items place.page)) }
     requires small { place.off + need < 2 ^ 64 }
     ensures { IsTrue result ↔ (need ≤ length (unread pages.now.items place.page place.off)) }
 {
@@ -269,8 +269,8 @@ fn reaches(pages: &Vec<Segment>, place: Place, need: usize) -> bool
 // The record of `len` bytes at a place.
 fn record_at(pages: &Vec<Segment>, place: Place, len: usize) -> RecordRef<'_>
     requires among { place.page ≤ vec_len pages.now }
-    requires within { place.off ≤ length (part (page_at pages.now.items place.page)) }
-    requires whole { place.off + len ≤ length (parts (drop place.page pages.now.items)) }
+    requires within { place.off ≤ length (used_bytes (page_at pages.now.items place.page)) }
+    requires whole { place.off + len ≤ length (all_used_bytes (drop place.page pages.now.items)) }
     ensures { seen_in result ≡ take len (unread pages.now.items place.page place.off) }
 {
     let rest = &pages[place.page..];

@@ -2,7 +2,7 @@
 ghost use Rattle.std.specs.Prelude.{◌≡◌, ℕ, ◌^◌, ◌<◌, [], true, Option, Some, None, length, All, MatchOption, OnOk, option_map, replicate, ⊤};
 ghost use Rattle.std.specs.Cmp.Lexicographic.{slice_cmp};
 ghost use Rattle.std.specs.Ordering.{nat_cmp};
-ghost use Rattle.segment_core.specs.Segments.{weigh};
+ghost use Rattle.segment_core.specs.Segments.{segment_sum};
 ghost use Rattle.paged_view.specs.Streams.{KnowsRows};
 ghost use Rattle.flow_types.specs.Records.{frames};
 ghost use Rattle.paged_view.specs.Reading.{HasRecord, first_record, after_first};
@@ -129,7 +129,7 @@ pub fn run_out<D: Spill, R: RecordStream<D>>(
     requires known { KnowsRows (D.told disk.old) (R.left stream.old (D.told disk.old)) }
     ensures end { OnOk result (KnowsRows (D.told disk.new) (λ rows. (rows ≡ []) × R.left stream.new (D.told disk.new) rows)) }
     ensures shows { R.shown stream.new ≡ None }
-    ensures segments { (h : ℕ → ℕ → ℕ) → weigh h (R.held stream.new) ≡ weigh h (R.held stream.old) }
+    ensures segments { (h : ℕ → ℕ → ℕ) → segment_sum h (R.held stream.new) ≡ segment_sum h (R.held stream.old) }
     ensures tells { D.told disk.new ≡ D.told disk.old }
 {
     'records: loop {

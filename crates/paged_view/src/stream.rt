@@ -1,6 +1,6 @@
 ghost use Rattle.std.specs.Prelude.{◌≡◌, ℕ, ◌<◌, ◌≤◌, true, List, Option, None, Ok, IfOk, MatchResult, is_some, option_map};
 ghost use Rattle.flow_outside.specs.Blocks.{Blocks};
-ghost use Rattle.segment_core.specs.Segments.{Page, weigh};
+ghost use Rattle.segment_core.specs.Segments.{SegmentView, segment_sum};
 ghost use Rattle.flow_outside.specs.Causes.{HasStreamCause};
 ghost use Rattle.paged_view.specs.Streams.{KnowsRows, Advances};
 ghost use Rattle.paged_view.specs.Seen.{seen_in};
@@ -30,7 +30,7 @@ pub trait RecordStream<D: Spill> {
     ghost most_left: { Self → ℕ };
 
     /// The segments that it holds.
-    ghost held: { Self → List Page };
+    ghost held: { Self → List SegmentView };
 
     /// Moves to the next record: false exactly at the end. It changes no block of the disk, gives none
     /// and ends the life of none.
@@ -49,7 +49,7 @@ pub trait RecordStream<D: Spill> {
             (λ _. shown self.new ≡ None) }
         ensures later { most_left self.new ≤ most_left self.old }
         ensures falls { result ≡ Ok true → most_left self.new < most_left self.old }
-        ensures segments { (h : ℕ → ℕ → ℕ) → weigh h (held self.new) ≡ weigh h (held self.old) }
+        ensures segments { (h : ℕ → ℕ → ℕ) → segment_sum h (held self.new) ≡ segment_sum h (held self.old) }
         ensures tells { D.told disk.new ≡ D.told disk.old }
         ensures counted { D.given disk.new ≡ D.given disk.old }
         ensures cause { HasStreamCause (D.fault_count disk.old) (D.fault_count disk.new)

@@ -1,5 +1,5 @@
 ghost use Rattle.std.specs.Prelude.{◌≡◌, ℕ, ◌+◌, ◌^◌, ◌<◌, ◌≤◌, length, All, option_to_list};
-ghost use Rattle.segment_core.specs.Segments.{weigh};
+ghost use Rattle.segment_core.specs.Segments.{segment_sum};
 
 use crate::reader::PageReader;
 use crate::writer::PageWriter;
@@ -41,8 +41,8 @@ fn turn_over(writer: &mut PageWriter, reader: &mut PageReader, all: bool)
     requires reader_room { length writer.old.pages + length reader.old.pages ≤ reader.old.room }
     ensures writer_stays { writer.new.room ≡ writer.old.room }
     ensures reader_stays { reader.new.room ≡ reader.old.room }
-    ensures segments { (h : ℕ → ℕ → ℕ) → weigh h writer.new.pages + weigh h reader.new.pages
-        ≡ weigh h writer.old.pages + weigh h reader.old.pages }
+    ensures segments { (h : ℕ → ℕ → ℕ) → segment_sum h writer.new.pages + segment_sum h reader.new.pages
+        ≡ segment_sum h writer.old.pages + segment_sum h reader.old.pages }
     ensures count { length writer.new.pages + length reader.new.pages
         ≡ length writer.old.pages + length reader.old.pages }
 {
@@ -58,7 +58,7 @@ fn turn_over(writer: &mut PageWriter, reader: &mut PageReader, all: bool)
 fn taken(writer: &mut PageWriter, all: bool) -> Option<Segment>
     ensures stays { writer.new.room ≡ writer.old.room }
     ensures segments { (h : ℕ → ℕ → ℕ) →
-        weigh h writer.new.pages + weigh h (option_to_list result) ≡ weigh h writer.old.pages }
+        segment_sum h writer.new.pages + segment_sum h (option_to_list result) ≡ segment_sum h writer.old.pages }
     ensures count { length writer.new.pages + length (option_to_list result)
         ≡ length writer.old.pages }
 {
@@ -69,7 +69,7 @@ fn taken(writer: &mut PageWriter, all: bool) -> Option<Segment>
 fn put(rt: &impl Abort, writer: &mut PageWriter, row: &&[u8])
     requires { length row.now.now < 2 ^ 32 }
     ensures stays { writer.new.room ≡ writer.old.room }
-    ensures segments { (h : ℕ → ℕ → ℕ) → weigh h writer.new.pages ≡ weigh h writer.old.pages }
+    ensures segments { (h : ℕ → ℕ → ℕ) → segment_sum h writer.new.pages ≡ segment_sum h writer.old.pages }
     ensures count { length writer.new.pages ≡ length writer.old.pages }
 {
     writer.append(row).expect(rt, "no room");
@@ -80,7 +80,7 @@ fn come_home(rt: &impl Abort, writer: &mut PageWriter, reader: PageReader)
     requires { length writer.old.pages + length reader.pages ≤ writer.old.room }
     ensures stays { writer.new.room ≡ writer.old.room }
     ensures segments { (h : ℕ → ℕ → ℕ) →
-        weigh h writer.new.pages ≡ weigh h writer.old.pages + weigh h reader.pages }
+        segment_sum h writer.new.pages ≡ segment_sum h writer.old.pages + segment_sum h reader.pages }
 {
     let mut reader = reader;
     'spent: while let Some(page) = reader.spent() {
@@ -114,8 +114,8 @@ fn carry(rt: &impl Abort, writer: &mut PageWriter, reader: &mut PageReader, rows
     requires reader_room { length writer.old.pages + length reader.old.pages ≤ reader.old.room }
     ensures writer_stays { writer.new.room ≡ writer.old.room }
     ensures reader_stays { reader.new.room ≡ reader.old.room }
-    ensures segments { (h : ℕ → ℕ → ℕ) → weigh h writer.new.pages + weigh h reader.new.pages
-        ≡ weigh h writer.old.pages + weigh h reader.old.pages }
+    ensures segments { (h : ℕ → ℕ → ℕ) → segment_sum h writer.new.pages + segment_sum h reader.new.pages
+        ≡ segment_sum h writer.old.pages + segment_sum h reader.old.pages }
     ensures count { length writer.new.pages + length reader.new.pages
         ≡ length writer.old.pages + length reader.old.pages }
 {

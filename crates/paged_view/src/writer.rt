@@ -1,7 +1,7 @@
 ghost use Rattle.std.specs.Prelude.{◌≡◌, ℕ, ◌+◌, ◌-◌, ◌^◌, ◌<◌, ◌≤◌, ◌↔◌, min, [], ◌∷◌, ◌++◌, length, take, drop, vec_len, vec_capacity, slice_set, IsTrue, IsSome, IfSome, OnSome, IfNone, IsErr, OnOk, OnErr, is_some, option_to_list};
 ghost use Rattle.flow_types.specs.Records.{framed};
-ghost use Rattle.segment_core.specs.Segments.{weigh};
-ghost use Rattle.paged_view.specs.Pages.{body, bodies, used, parts, page_at};
+ghost use Rattle.segment_core.specs.Segments.{segment_sum};
+ghost use Rattle.paged_view.specs.Pages.{body, bodies, used, all_used_bytes, page_at};
 ghost use Rattle.paged_view.specs.Writing.{free, has_full, text_in, written};
 
 use crate::need_page::NeedPage;
@@ -56,7 +56,7 @@ impl PageWriter {
         ensures text { self.new.text ≡ self.old.text }
         ensures room { self.new.room ≡ self.old.room }
         ensures segments { (h : ℕ → ℕ → ℕ) →
-            weigh h self.new.pages ≡ weigh h self.old.pages + weigh h (page ∷ []) }
+            segment_sum h self.new.pages ≡ segment_sum h self.old.pages + segment_sum h (page ∷ []) }
     {
         self.pages.push_reserved(page);
     }
@@ -74,7 +74,7 @@ impl PageWriter {
         ensures fits { length self.old.text ≤ length (bodies self.old.pages) }
         ensures room { self.new.room ≡ self.old.room }
         ensures size { length (bodies self.new.pages) ≡ length (bodies self.old.pages) }
-        ensures segments { (h : ℕ → ℕ → ℕ) → weigh h self.new.pages ≡ weigh h self.old.pages }
+        ensures segments { (h : ℕ → ℕ → ℕ) → segment_sum h self.new.pages ≡ segment_sum h self.old.pages }
     {
         let len = row.len();
         if self.lacks(4 + len) {
@@ -100,7 +100,7 @@ impl PageWriter {
         ensures text { self.new.text ≡ self.old.text ++ X.seen row.now }
         ensures room { self.new.room ≡ self.old.room }
         ensures size { length (bodies self.new.pages) ≡ length (bodies self.old.pages) }
-        ensures segments { (h : ℕ → ℕ → ℕ) → weigh h self.new.pages ≡ weigh h self.old.pages }
+        ensures segments { (h : ℕ → ℕ → ℕ) → segment_sum h self.new.pages ≡ segment_sum h self.old.pages }
     {
         let len = row.len();
         let mut at = 0;
@@ -117,7 +117,7 @@ impl PageWriter {
         ensures text { self.new.text ≡ self.old.text ++ bytes.now }
         ensures room { self.new.room ≡ self.old.room }
         ensures size { length (bodies self.new.pages) ≡ length (bodies self.old.pages) }
-        ensures segments { (h : ℕ → ℕ → ℕ) → weigh h self.new.pages ≡ weigh h self.old.pages }
+        ensures segments { (h : ℕ → ℕ → ℕ) → segment_sum h self.new.pages ≡ segment_sum h self.old.pages }
     {
         let mut at = 0;
         'pieces: while at < bytes.len() {
@@ -134,7 +134,7 @@ impl PageWriter {
         ensures text { self.new.text ≡ self.old.text ++ take result bytes.now }
         ensures room { self.new.room ≡ self.old.room }
         ensures size { length (bodies self.new.pages) ≡ length (bodies self.old.pages) }
-        ensures segments { (h : ℕ → ℕ → ℕ) → weigh h self.new.pages ≡ weigh h self.old.pages }
+        ensures segments { (h : ℕ → ℕ → ℕ) → segment_sum h self.new.pages ≡ segment_sum h self.old.pages }
     {
         let space = body_of(&self.pages[self.full]).len();
         let count = write_piece(&mut self.pages, self.full, self.fill, bytes);
@@ -152,14 +152,14 @@ impl PageWriter {
     pub fn full(&mut self) -> Option<Segment>
         ensures some { is_some result ≡ has_full self.old.text self.old.pages }
         ensures none { IfNone result (self.new ≡ self.old) }
-        ensures text { self.old.text ≡ parts (option_to_list result) ++ self.new.text }
+        ensures text { self.old.text ≡ all_used_bytes (option_to_list result) ++ self.new.text }
         ensures used { IfSome result (λ p. used p ≡ length (body p)) }
         ensures holds { IfSome result (λ p. 0 < used p) }
         ensures rest { OnSome result (self.new.pages ≡ drop 1 self.old.pages) }
         ensures fits { length self.old.pages ≤ self.old.room }
         ensures room { self.new.room ≡ self.old.room }
         ensures segments { (h : ℕ → ℕ → ℕ) →
-            weigh h self.new.pages + weigh h (option_to_list result) ≡ weigh h self.old.pages }
+            segment_sum h self.new.pages + segment_sum h (option_to_list result) ≡ segment_sum h self.old.pages }
     {
         let space = body_of(self.pages.first()?).len();
         if self.full == 0 {
@@ -175,14 +175,14 @@ impl PageWriter {
     pub fn last(&mut self) -> Option<Segment>
         ensures some { IsSome result ↔ (0 < length self.old.text) }
         ensures none { IfNone result (self.new ≡ self.old) }
-        ensures text { self.old.text ≡ parts (option_to_list result) ++ self.new.text }
+        ensures text { self.old.text ≡ all_used_bytes (option_to_list result) ++ self.new.text }
         ensures used { IfSome result (λ p. used p ≡ min (length (body p)) (length self.old.text)) }
         ensures holds { IfSome result (λ p. 0 < used p) }
         ensures rest { OnSome result (self.new.pages ≡ drop 1 self.old.pages) }
         ensures fits { length self.old.pages ≤ self.old.room }
         ensures room { self.new.room ≡ self.old.room }
         ensures segments { (h : ℕ → ℕ → ℕ) →
-            weigh h self.new.pages + weigh h (option_to_list result) ≡ weigh h self.old.pages }
+            segment_sum h self.new.pages + segment_sum h (option_to_list result) ≡ segment_sum h self.old.pages }
     {
         let space = body_of(self.pages.first()?).len();
         if self.full > 0 {
@@ -256,7 +256,7 @@ fn take_first(pages: &mut Vec<Segment>, count: usize) -> Segment
     ensures body { body result ≡ body (page_at pages.old.items 0) }
     ensures used { used result ≡ count }
     ensures segments { (h : ℕ → ℕ → ℕ) →
-        weigh h pages.new.items + weigh h (result ∷ []) ≡ weigh h pages.old.items }
+        segment_sum h pages.new.items + segment_sum h (result ∷ []) ≡ segment_sum h pages.old.items }
 {
     let mut page = pages.remove(0);
     set_used(&mut page, count);

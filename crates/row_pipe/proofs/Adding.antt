@@ -3,7 +3,7 @@ use Rattle.std.proofs.Common.{Result, OnOk, ◌≡◌, ℕ, zero, suc, ◌+◌, 
 use Rattle.std.specs.List.{filter}
 use Rattle.std.proofs.lemmas.List.{map-append, take_more}
 use Rattle.std.proofs.lemmas.List.Elements.{All-nil, All-cons, All-head, All-tail, filter-append}
-use Rattle.segment_core.specs.Segments.{Held, Page}
+use Rattle.segment_core.specs.Segments.{PurseView, SegmentView}
 use Rattle.flow_outside.specs.Blocks.{Blocks, BothTold}
 use Rattle.flow_outside.specs.Told.{IfTold}
 use Rattle.flow_types.specs.Records.{form}
@@ -19,7 +19,7 @@ use Rattle.lot_store.proofs.SpillLemmas.{told_join, told_with}
 use Rattle.row_pipe.specs.Pipes.{AddsRows, AreWithin, HasPlaceFor, Writes, most_touched}
 use Rattle.row_pipe.proofs.Telling.{told_after, told_same}
 
-keeps_join : (a b c : LotView) (p q r : List Page) (k m n : Blocks) → Keeps a b p q k m → Keeps b c q r m n → Keeps a c p r k n
+keeps_join : (a b c : LotView) (p q r : List SegmentView) (k m n : Blocks) → Keeps a b p q k m → Keeps b c q r m n → Keeps a c p r k n
 keeps_join a b c p q r k m n f g = record {
   stands = λ size s. g.stands size (f.stands size s);
   others = λ block live other.
@@ -29,7 +29,7 @@ keeps_join a b c p q r k m n f g = record {
 }
 
 -- two calls, one after the other
-pub writes_join : (t u v : Option Blocks) (a b c : LotView) (p q r : Held) → Writes t u a b p q → Writes u v b c q r → Writes t v a c p r
+pub writes_join : (t u v : Option Blocks) (a b c : LotView) (p q r : PurseView) → Writes t u a b p q → Writes u v b c q r → Writes t v a c p r
 writes_join t u v a b c p q r f g = record {
   keeps = told_join t u v (Keeps a b p.pages q.pages) (Keeps b c q.pages r.pages) (Keeps a c p.pages r.pages) (λ k m n. keeps_join a b c p.pages q.pages r.pages k m n) f.keeps g.keeps;
   segments = λ h. omega (arith, f.segments h, g.segments h);
@@ -39,7 +39,7 @@ writes_join t u v a b c p q r f g = record {
 }
 
 -- nothing was done
-pub writes_none : (t : Option Blocks) (lot : LotView) (purse : Held) → Writes t t lot lot purse purse
+pub writes_none : (t : Option Blocks) (lot : LotView) (purse : PurseView) → Writes t t lot lot purse purse
 writes_none t lot purse = record {
   keeps = told_same t (Keeps lot lot purse.pages purse.pages) (λ m. record {
     stands = λ size s. s;
@@ -65,7 +65,7 @@ pub added_none : (t : Option Blocks) (lot : LotView) → BothTold t t (AddsRows 
 added_none t lot = told_same t (AddsRows lot lot []) (adds_none lot)
 
 -- Where there is a place for the record, appending it adds it.
-pub added_row : {E : Type 0} (answer : Result Unit E) (t u : Option Blocks) (a b : LotView) (p : List Page) (row : List ℕ) → IfTold t (HasPlaceFor (row ∷ []) a p)
+pub added_row : {E : Type 0} (answer : Result Unit E) (t u : Option Blocks) (a b : LotView) (p : List SegmentView) (row : List ℕ) → IfTold t (HasPlaceFor (row ∷ []) a p)
     → OnOk answer (BothTold t u (AddsRow a b p row)) → OnOk answer (BothTold t u (AddsRows a b (row ∷ [])))
 added_row answer t u a b p row place adds =
     on_ok_map answer (BothTold t u (AddsRow a b p row)) (BothTold t u (AddsRows a b (row ∷ [])))
@@ -108,7 +108,7 @@ within_one size reach branches i d row low h =
     made_twice (λ (bytes : List ℕ). most_touched size (length bytes) ≤ reach) form (λ (b : Branch). columns_of b.columns row) (λ (b : Branch). flag_of (val row b.when)) branches i d low h
 
 -- The place for all that is given of branches is one for what is given of one of them, also after others were added.
-pub place_at : (t u : Option Blocks) (a b : LotView) (p q : Held) (branches : List Branch) (i : ℕ) (d : Branch) (row : Tuple) → i < length branches
+pub place_at : (t u : Option Blocks) (a b : LotView) (p q : PurseView) (branches : List Branch) (i : ℕ) (d : Branch) (row : Tuple) → i < length branches
     → IfTold t (HasPlaceFor (map form (branch_rows branches row)) a p.pages) → Writes t u a b p q
     → IfTold u (HasPlaceFor (map form (branch_rows (get_or branches i d ∷ []) row)) b q.pages)
 place_at t u a b p q branches i d row low place writes =
@@ -138,7 +138,7 @@ added_branch t u v a b c branches i d row low f g =
     (added_join t u v a b c (map form (branch_rows (take i branches) row)) (map form (branch_rows (get_or branches i d ∷ []) row)) f g)
 
 -- the same of a branch that a loop is at
-pub place_of : (t u : Option Blocks) (a b : LotView) (p q : Held) (branches : List Branch) (i : ℕ) (x : Branch) (row : Tuple) → i < length branches → x ≡ get_or branches i x
+pub place_of : (t u : Option Blocks) (a b : LotView) (p q : PurseView) (branches : List Branch) (i : ℕ) (x : Branch) (row : Tuple) → i < length branches → x ≡ get_or branches i x
     → IfTold t (HasPlaceFor (map form (branch_rows branches row)) a p.pages) → Writes t u a b p q
     → IfTold u (HasPlaceFor (map form (branch_rows (x ∷ []) row)) b q.pages)
 place_of t u a b p q branches i x row low is place writes =

@@ -1,6 +1,6 @@
 -- The record that a lot shows, and what is given of it.
 use Rattle.std.proofs.Common.{Result, Err, OnOk, ◌≡◌, ◌^◌, ◌<◌, ◌≤◌, ℕ, Bool, true, false, List, [], ◌∷◌, length, map, Option, Some, None, IsTrue, refl, sym, ap, ◌∙◌, subst, arith}
-use Rattle.segment_core.specs.Segments.{Page}
+use Rattle.segment_core.specs.Segments.{SegmentView}
 use Rattle.flow_outside.specs.Blocks.{Blocks, BothTold}
 use Rattle.flow_outside.specs.Causes.{HasStreamCause}
 use Rattle.flow_outside.specs.Told.{IfTold}
@@ -24,7 +24,7 @@ short_record fields bytes is small =
     omega (arith, form_widest fields (tuple_of fields bytes) is.tuple.fitting, ap length is.formed, small)
 
 -- There is a place for what is given of the row.
-pub place_of_head : (t : Option Blocks) (fields : Fields) (w : Work) (input out : LotView) (p : List Page) (bytes : List ℕ) → IsRecord fields bytes
+pub place_of_head : (t : Option Blocks) (fields : Fields) (w : Work) (input out : LotView) (p : List SegmentView) (bytes : List ℕ) → IsRecord fields bytes
     → IfTold t (HasPlaces fields w input out p) → IfTold t (HasPlaceFor (map form (piped w (tuple_of fields bytes ∷ []))) out p)
 place_of_head t fields w input out p bytes is places =
     told_weaker t (HasPlaces fields w input out p) (HasPlaceFor (map form (piped w (tuple_of fields bytes ∷ []))) out p)

@@ -3,7 +3,7 @@ use Rattle.std.proofs.Common.{◌≡◌, ℕ, ◌≤◌, Bool, true, false, All,
 use Rattle.std.proofs.lemmas.Grind.{flat_map-append}
 use Rattle.std.proofs.lemmas.List.{map-append}
 use Rattle.std.proofs.lemmas.List.Elements.{All-head, All-tail, filter-append}
-use Rattle.segment_core.specs.Segments.{Held, Page}
+use Rattle.segment_core.specs.Segments.{PurseView, SegmentView}
 use Rattle.flow_outside.specs.Blocks.{Blocks, BothTold}
 use Rattle.flow_outside.specs.Causes.{HasStreamCause, Rose}
 use Rattle.flow_outside.specs.Told.{IfTold}
@@ -47,7 +47,7 @@ given_more w done t = ap (map form) (piped-append w done (t ∷ [])) ∙ map-app
 
 module _ (fields : Fields) (w : Work) where
   -- Nothing was passed on yet.
-  pub goes_none : (t : Option Blocks) (input out : LotView) (p : List Page) → BothTold t t (GoesThrough fields w input input out out p)
+  pub goes_none : (t : Option Blocks) (input out : LotView) (p : List SegmentView) → BothTold t t (GoesThrough fields w input input out out p)
   goes_none t input out p =
       told_same t (GoesThrough fields w input input out out p) (λ m size both rows left. record {
         done = [];
@@ -58,11 +58,11 @@ module _ (fields : Fields) (w : Work) where
       })
 
   -- The disk is as it was.
-  pub goes_at : (t u v : Option Blocks) (a b x y : LotView) (p : List Page) → v ≡ u → BothTold t u (GoesThrough fields w a b x y p) → BothTold t v (GoesThrough fields w a b x y p)
+  pub goes_at : (t u v : Option Blocks) (a b x y : LotView) (p : List SegmentView) → v ≡ u → BothTold t u (GoesThrough fields w a b x y p) → BothTold t v (GoesThrough fields w a b x y p)
   goes_at t u v a b x y p same goes = subst (λ o. BothTold t o (GoesThrough fields w a b x y p)) (sym same) goes
 
   -- What is left is known, where the disk tells.
-  pub known_now : (t u : Option Blocks) (a b x y : LotView) (p : List Page) → IfTold t (HasPlaces fields w a x p) → IfTold t (λ m. (rows : Tuples) × LeavesTuples fields m a rows)
+  pub known_now : (t u : Option Blocks) (a b x y : LotView) (p : List SegmentView) → IfTold t (HasPlaces fields w a x p) → IfTold t (λ m. (rows : Tuples) × LeavesTuples fields m a rows)
       → BothTold t u (GoesThrough fields w a b x y p) → KnowsRows u (IsLeft b u)
   known_now None None a b x y p places left goes = tt
   known_now None (Some n) a b x y p places left goes = absurd goes
@@ -77,7 +77,7 @@ module _ (fields : Fields) (w : Work) where
   shown_of m b shown [] L fit adv = absurd adv
   shown_of m b shown (t ∷ rest) L fit adv = (t, (All-head (IsTupleOf fields) t rest fit, adv.0))
 
-  pub shown_now : (t u : Option Blocks) (a b c x y : LotView) (p : List Page) (L : List (List ℕ) → Type 0) → IfTold t (HasPlaces fields w a x p) → IfTold t (λ m. (rows : Tuples) × LeavesTuples fields m a rows)
+  pub shown_now : (t u : Option Blocks) (a b c x y : LotView) (p : List SegmentView) (L : List (List ℕ) → Type 0) → IfTold t (HasPlaces fields w a x p) → IfTold t (λ m. (rows : Tuples) × LeavesTuples fields m a rows)
       → BothTold t u (GoesThrough fields w a b x y p) → ((rows : List (List ℕ)) → IsLeft b u rows → Advances rows true c.feed.shown L) → IfTold u (λ m. ShowsTuple fields c)
   shown_now None None a b c x y p L places left goes adv = tt
   shown_now None (Some n) a b c x y p L places left goes adv = absurd goes
@@ -87,7 +87,7 @@ module _ (fields : Fields) (w : Work) where
       shown_of n b c.feed.shown mid.left L mid.behind.fitting (adv (map form mid.left) mid.behind.records)
 
   -- One row more was passed on.
-  midway_on : (k m n : Blocks) (a b c x y z : LotView) (p q r : List Page) (rows : Tuples) (size : ℕ) (left : Tuples) → StandBeside size c y q m → Keeps y z q r m n
+  midway_on : (k m n : Blocks) (a b c x y z : LotView) (p q r : List SegmentView) (rows : Tuples) (size : ℕ) (left : Tuples) → StandBeside size c y q m → Keeps y z q r m n
       → (done : Tuples) → rows ≡ done ++ left → All (IsTupleOf fields) left → AddsRows x y (map form (piped w done)) k m
       → Advances (map form left) true c.feed.shown (HasLeft m c.feed) → GivesShown fields w c y z m n → IsMidway fields w c x z rows k n
   midway_on k m n a b c x y z p q r rows size [] both keeps done all fit adds adv gives = absurd adv
@@ -104,7 +104,7 @@ module _ (fields : Fields) (w : Work) where
             (adds_join x y z (map form (piped w done)) (map form (piped w (t ∷ []))) k m n adds (gives t (All-head (IsTupleOf fields) t rest fit) adv.0));
       }
 
-  pub goes_on : (t u v : Option Blocks) (a b c x y z : LotView) (p q r : Held) → BothTold t u (GoesThrough fields w a b x y p.pages)
+  pub goes_on : (t u v : Option Blocks) (a b c x y z : LotView) (p q r : PurseView) → BothTold t u (GoesThrough fields w a b x y p.pages)
       → BothTold t u (StaysBeside a c x y p.pages q.pages) → ((rows : List (List ℕ)) → IsLeft b u rows → Advances rows true c.feed.shown (IsLeft c u))
       → BothTold u v (Keeps y z q.pages r.pages) → BothTold u v (GivesShown fields w c y z) → BothTold t v (GoesThrough fields w a c x z p.pages)
   goes_on None None None a b c x y z p q r goes stays adv keeps gives = tt
@@ -122,7 +122,7 @@ module _ (fields : Fields) (w : Work) where
   all_done k m x y rows done [] shown L all adds adv = subst (λ ts. AddsRows x y (map form (piped w ts)) k m) (sym (all ∙ append-nil done)) adds
   all_done k m x y rows done (t ∷ rest) shown L all adds adv = absurd adv
 
-  pub gives_end : (t u : Option Blocks) (a b x y : LotView) (p : List Page) (shown : Option (List ℕ)) (L : List (List ℕ) → Type 0) → BothTold t u (GoesThrough fields w a b x y p)
+  pub gives_end : (t u : Option Blocks) (a b x y : LotView) (p : List SegmentView) (shown : Option (List ℕ)) (L : List (List ℕ) → Type 0) → BothTold t u (GoesThrough fields w a b x y p)
       → ((rows : List (List ℕ)) → IsLeft b u rows → Advances rows false shown L) → BothTold t u (GivesAll fields w a x y p)
   gives_end None None a b x y p shown L goes adv = tt
   gives_end None (Some n) a b x y p shown L goes adv = goes
@@ -132,7 +132,7 @@ module _ (fields : Fields) (w : Work) where
       all_done m n x y rows mid.done mid.left shown L mid.all mid.adds (adv (map form mid.left) mid.behind.records)
 
   -- From a lot at rest to both lots at rest.
-  pub gives_rows : (t u v : Option Blocks) (a b x y z : LotView) (p q : Held) → IfTold t (HasPlaces fields w a x p.pages)
+  pub gives_rows : (t u v : Option Blocks) (a b x y z : LotView) (p q : PurseView) → IfTold t (HasPlaces fields w a x p.pages)
       → IfTold t (λ m. (rows : List (List ℕ)) → HoldsRows m a rows → HoldsRows m b rows × HasLeft m b.feed rows)
       → BothTold t t (StaysBeside a b x x p.pages q.pages) → BothTold t u (GivesAll fields w b x y q.pages) → BothTold u v (KeepsRows y z)
       → BothTold t v (GivesRows fields w a x z)

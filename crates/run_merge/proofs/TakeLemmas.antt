@@ -7,8 +7,8 @@ use Rattle.std.specs.Cmp.{IsTotalOrder}
 use Rattle.std.specs.declared.cmp.Ordering.{Ordering}
 use Rattle.flow_outside.specs.Blocks.{Blocks}
 use Rattle.flow_types.specs.Bags.{sort_by}
-use Rattle.segment_core.specs.Segments.{Page, weigh}
-use Rattle.segment_core.proofs.Weighing.{weigh-append}
+use Rattle.segment_core.specs.Segments.{SegmentView, segment_sum}
+use Rattle.segment_core.proofs.Weighing.{segment_sum-append}
 use Rattle.flow_outside.specs.declared.failure.StreamFault.{StreamFault}
 use Rattle.paged_view.specs.Streams.{Advances}
 use Rattle.run_merge.specs.Merging.{Ascends, IsLeastBelow, Merges, Pending, Row, Rows, ShowsFitting, WaitsFitting, merged, most_of, number_at, shown_at, yields}
@@ -92,9 +92,9 @@ advances_ended cmp o fit shown left t sources waits none rows m =
     (shown_nowhere shown sources, (m.0, m.1, sym empty))
 
 -- what all streams hold weighs what each does
-pub weigh_flat : {S : Type 0} (h : ℕ → ℕ → ℕ) (f : S → List Page) (xs : List S) → weigh h (flat_map f xs) ≡ sum_by (λ s. weigh h (f s)) xs
+pub weigh_flat : {S : Type 0} (h : ℕ → ℕ → ℕ) (f : S → List SegmentView) (xs : List S) → segment_sum h (flat_map f xs) ≡ sum_by (λ s. segment_sum h (f s)) xs
 weigh_flat h f [] = refl
-weigh_flat h f (x ∷ xs) = omega (arith, weigh-append h (f x) (flat_map f xs), weigh_flat h f xs, sum_by-cons (λ s. weigh h (f s)) x xs)
+weigh_flat h f (x ∷ xs) = omega (arith, segment_sum-append h (f x) (flat_map f xs), weigh_flat h f xs, sum_by-cons (λ s. segment_sum h (f s)) x xs)
 
 -- after a fault nothing is shown
 pub none_after : {R : Type 0} (shown : R → Option Row) (sources : List (Source R)) (answer : Result Bool StreamFault) → IsErr answer

@@ -1,7 +1,7 @@
 //! Streams are advanced whose record was given.
 ghost use Rattle.std.specs.Prelude.{◌≡◌, ◌≢◌, ℕ, ◌+◌, ◌<◌, ◌≤◌, Bool, false, All, List, OnOk, length, slice_index_or, sum_by};
 ghost use Rattle.flow_outside.specs.Causes.{HasStreamCause};
-ghost use Rattle.segment_core.specs.Segments.{weigh};
+ghost use Rattle.segment_core.specs.Segments.{segment_sum};
 ghost use Rattle.paged_view.specs.Streams.{KnowsRows};
 ghost use Rattle.run_merge.specs.Merging.{Merges, Rows, WaitsFitting, most_of, yields};
 ghost use Rattle.run_merge.specs.declared.source.Source.{Source};
@@ -29,7 +29,7 @@ pub(crate) fn fill<D: Spill, R: RecordStream<D>, O: RecordOrder>(
         Merges (O.cmp order.now) (yields (O.cmp order.now) (O.is_fit order.now) R.shown R.left (D.told disk.new)) sources.new rows) }
     ensures later { sum_by (most_of R.shown R.most_left) sources.new ≤ sum_by (most_of R.shown R.most_left) sources.old }
     ensures count { length sources.new ≡ length sources.old }
-    ensures segments { (h : ℕ → ℕ → ℕ) → sum_by (λ s. weigh h (R.held s.stream)) sources.new ≡ sum_by (λ s. weigh h (R.held s.stream)) sources.old }
+    ensures segments { (h : ℕ → ℕ → ℕ) → sum_by (λ s. segment_sum h (R.held s.stream)) sources.new ≡ sum_by (λ s. segment_sum h (R.held s.stream)) sources.old }
     ensures tells { D.told disk.new ≡ D.told disk.old }
     ensures counted { D.given disk.new ≡ D.given disk.old }
     ensures cause { HasStreamCause (D.fault_count disk.old) (D.fault_count disk.new) (D.told disk.old) result }
@@ -60,7 +60,7 @@ fn fill_at<D: Spill, R: RecordStream<D>, O: RecordOrder>(
     ensures later { sum_by (most_of R.shown R.most_left) sources.new ≤ sum_by (most_of R.shown R.most_left) sources.old }
     ensures count { length sources.new ≡ length sources.old }
     ensures same { (i : ℕ) (d : Source R) → i ≢ at → slice_index_or sources.new i d ≡ slice_index_or sources.old i d }
-    ensures segments { (h : ℕ → ℕ → ℕ) → sum_by (λ s. weigh h (R.held s.stream)) sources.new ≡ sum_by (λ s. weigh h (R.held s.stream)) sources.old }
+    ensures segments { (h : ℕ → ℕ → ℕ) → sum_by (λ s. segment_sum h (R.held s.stream)) sources.new ≡ sum_by (λ s. segment_sum h (R.held s.stream)) sources.old }
     ensures tells { D.told disk.new ≡ D.told disk.old }
     ensures counted { D.given disk.new ≡ D.given disk.old }
     ensures cause { HasStreamCause (D.fault_count disk.old) (D.fault_count disk.new) (D.told disk.old) result }
@@ -88,7 +88,7 @@ fn fill_place<D: Spill, R: RecordStream<D>, O: RecordOrder>(
     ensures later { (d : Source R) → most_of R.shown R.most_left (slice_index_or sources.new at d) ≤ most_of R.shown R.most_left (slice_index_or sources.old at d) }
     ensures count { length sources.new ≡ length sources.old }
     ensures same { (i : ℕ) (d : Source R) → i ≢ at → slice_index_or sources.new i d ≡ slice_index_or sources.old i d }
-    ensures segments { (h : ℕ → ℕ → ℕ) (d : Source R) → weigh h (R.held (slice_index_or sources.new at d).stream) ≡ weigh h (R.held (slice_index_or sources.old at d).stream) }
+    ensures segments { (h : ℕ → ℕ → ℕ) (d : Source R) → segment_sum h (R.held (slice_index_or sources.new at d).stream) ≡ segment_sum h (R.held (slice_index_or sources.old at d).stream) }
     ensures tells { D.told disk.new ≡ D.told disk.old }
     ensures counted { D.given disk.new ≡ D.given disk.old }
     ensures cause { HasStreamCause (D.fault_count disk.old) (D.fault_count disk.new) (D.told disk.old) result }
@@ -112,7 +112,7 @@ fn fill_one<D: Spill, R: RecordStream<D>, O: RecordOrder>(
         yields (O.cmp order.now) (O.is_fit order.now) R.shown R.left (D.told disk.old) source.old rows →
         yields (O.cmp order.now) (O.is_fit order.now) R.shown R.left (D.told disk.new) source.new rows) }
     ensures later { most_of R.shown R.most_left source.new ≤ most_of R.shown R.most_left source.old }
-    ensures segments { (h : ℕ → ℕ → ℕ) → weigh h (R.held source.new.stream) ≡ weigh h (R.held source.old.stream) }
+    ensures segments { (h : ℕ → ℕ → ℕ) → segment_sum h (R.held source.new.stream) ≡ segment_sum h (R.held source.old.stream) }
     ensures tells { D.told disk.new ≡ D.told disk.old }
     ensures counted { D.given disk.new ≡ D.given disk.old }
     ensures cause { HasStreamCause (D.fault_count disk.old) (D.fault_count disk.new) (D.told disk.old) result }

@@ -1,7 +1,7 @@
 ghost use Rattle.std.specs.Prelude.{◌≡◌, ◌≤◌, ◌<◌, ℕ, [], ◌∷◌, ◌++◌, All, Bool, true, IfOk, MatchOption, is_some, length, option_map, sum_by};
 ghost use Rattle.std.specs.List.{flat_map};
 ghost use Rattle.flow_outside.specs.Causes.{HasStreamCause};
-ghost use Rattle.segment_core.specs.Segments.{weigh};
+ghost use Rattle.segment_core.specs.Segments.{segment_sum};
 ghost use Rattle.paged_view.specs.Seen.{seen_in};
 ghost use Rattle.paged_view.specs.Streams.{Advances, KnowsRows};
 ghost use Rattle.run_merge.specs.Merging.{Merges, Rows, WaitsFitting, most_of, number_at, shown_at, yields};
@@ -102,7 +102,7 @@ impl<R> Streams<R> {
         ensures later { sum_by (most_of R.shown R.most_left) self.new.sources ≤ sum_by (most_of R.shown R.most_left) self.old.sources }
         ensures falls { IfOk result (λ place. MatchOption place Unit (λ _. sum_by (most_of R.shown R.most_left) self.new.sources < sum_by (most_of R.shown R.most_left) self.old.sources)) }
         ensures room { self.new.room ≡ self.old.room }
-        ensures segments { (h : ℕ → ℕ → ℕ) → weigh h (flat_map (λ s. R.held s.stream) self.new.sources) ≡ weigh h (flat_map (λ s. R.held s.stream) self.old.sources) }
+        ensures segments { (h : ℕ → ℕ → ℕ) → segment_sum h (flat_map (λ s. R.held s.stream) self.new.sources) ≡ segment_sum h (flat_map (λ s. R.held s.stream) self.old.sources) }
         ensures tells { D.told disk.new ≡ D.told disk.old }
         ensures counted { D.given disk.new ≡ D.given disk.old }
         ensures cause { HasStreamCause (D.fault_count disk.old) (D.fault_count disk.new) (D.told disk.old) result }

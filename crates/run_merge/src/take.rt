@@ -3,7 +3,7 @@ ghost use Rattle.std.specs.Prelude.{◌≡◌, ℕ, ◌<◌, ◌≤◌, Option, 
 ghost use Rattle.std.specs.List.{flat_map};
 ghost use Rattle.flow_outside.specs.Blocks.{Blocks};
 ghost use Rattle.flow_outside.specs.Causes.{HasStreamCause};
-ghost use Rattle.segment_core.specs.Segments.{weigh};
+ghost use Rattle.segment_core.specs.Segments.{segment_sum};
 ghost use Rattle.paged_view.specs.Streams.{Advances, KnowsRows};
 ghost use Rattle.run_merge.specs.Merging.{Merges, Rows, WaitsFitting, most_of, shown_at, yields};
 
@@ -34,7 +34,7 @@ pub(crate) fn take_least<D: Spill, R: RecordStream<D>, O: RecordOrder>(
     ensures later { sum_by (most_of R.shown R.most_left) sources.new ≤ sum_by (most_of R.shown R.most_left) sources.old }
     ensures falls { IfOk result (λ place. MatchOption place Unit (λ _. sum_by (most_of R.shown R.most_left) sources.new < sum_by (most_of R.shown R.most_left) sources.old)) }
     ensures count { length sources.new ≡ length sources.old }
-    ensures segments { (h : ℕ → ℕ → ℕ) → weigh h (flat_map (λ s. R.held s.stream) sources.new) ≡ weigh h (flat_map (λ s. R.held s.stream) sources.old) }
+    ensures segments { (h : ℕ → ℕ → ℕ) → segment_sum h (flat_map (λ s. R.held s.stream) sources.new) ≡ segment_sum h (flat_map (λ s. R.held s.stream) sources.old) }
     ensures tells { D.told disk.new ≡ D.told disk.old }
     ensures counted { D.given disk.new ≡ D.given disk.old }
     ensures cause { HasStreamCause (D.fault_count disk.old) (D.fault_count disk.new) (D.told disk.old) result }
@@ -61,7 +61,7 @@ fn take_first<D: Spill, R: RecordStream<D>, O: RecordOrder>(
     ensures later { sum_by (most_of R.shown R.most_left) sources.new ≤ sum_by (most_of R.shown R.most_left) sources.old }
     ensures falls { MatchOption result Unit (λ _. sum_by (most_of R.shown R.most_left) sources.new < sum_by (most_of R.shown R.most_left) sources.old) }
     ensures count { length sources.new ≡ length sources.old }
-    ensures segments { (h : ℕ → ℕ → ℕ) → sum_by (λ s. weigh h (R.held s.stream)) sources.new ≡ sum_by (λ s. weigh h (R.held s.stream)) sources.old }
+    ensures segments { (h : ℕ → ℕ → ℕ) → sum_by (λ s. segment_sum h (R.held s.stream)) sources.new ≡ sum_by (λ s. segment_sum h (R.held s.stream)) sources.old }
 {
     let best = least(sources, order);
     if let Some(place) = best {

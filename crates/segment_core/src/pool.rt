@@ -1,5 +1,5 @@
 ghost use Rattle.std.specs.Prelude.{◌≡◌, ℕ, ◌+◌, ◌<◌, ◌≤◌, ◌⊎◌, ◌↔◌, true, false, [], ◌∷◌, ◌++◌, length, reverse, vec_len, vec_capacity, IsOk, IfOk, OnOk, OnErr, IsErrOf};
-ghost use Rattle.segment_core.specs.Segments.{is_segment_size, weigh, blank_pages};
+ghost use Rattle.segment_core.specs.Segments.{is_segment_size, segment_sum, blank_pages};
 ghost use Rattle.segment_core.specs.Ledger.{IsLedger, KeepsLedger, MayReturn};
 
 use super::{LARGEST_SIZE, LeaseFault, PoolFault, Purse, SMALLEST_SIZE, Segment};
@@ -20,10 +20,10 @@ pub struct Pool {
 
 impl Model for Pool {
     ghost use Rattle.std.specs.Prelude.{vec_len, vec_capacity};
-    ghost use Rattle.segment_core.specs.Segments.{Stock};
+    ghost use Rattle.segment_core.specs.Segments.{PoolView};
     ghost use Rattle.segment_core.specs.Ledger.{IsSound};
 
-    ghost Value = { Stock };
+    ghost Value = { PoolView };
 
     ghost view = { λ p. record { total = p.total; size = p.size; free = p.free.items } };
 
@@ -86,7 +86,7 @@ impl Pool {
         ensures size { self.new.size ≡ self.old.size }
 
         ensures segments { IfOk result (λ p. (h : ℕ → ℕ → ℕ) →
-            weigh h self.new.free + weigh h p.pages ≡ weigh h self.old.free) }
+            segment_sum h self.new.free + segment_sum h p.pages ≡ segment_sum h self.old.free) }
         ensures ledger { IfOk result (λ p.
             KeepsLedger (self.old.free ∷ []) (self.new.free ∷ p.pages ∷ [])) }
     {
@@ -110,7 +110,7 @@ impl Pool {
         ensures total { self.new.total ≡ self.old.total }
         ensures size { self.new.size ≡ self.old.size }
         ensures segments { (h : ℕ → ℕ → ℕ) →
-            weigh h self.new.free ≡ weigh h self.old.free + weigh h p.pages }
+            segment_sum h self.new.free ≡ segment_sum h self.old.free + segment_sum h p.pages }
         ensures ledger { KeepsLedger (self.old.free ∷ p.pages ∷ []) (self.new.free ∷ []) }
     {
         let (mut items, _room) = p.into_items();

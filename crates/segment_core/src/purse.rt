@@ -1,5 +1,5 @@
 ghost use Rattle.std.specs.Prelude.{◌≡◌, ℕ, ◌+◌, ◌<◌, ◌≤◌, ◌↔◌, [], ◌∷◌, ◌++◌, length, vec_len, vec_capacity, IsSome, IsOk, IfOk, IsOkUnless, option_to_list};
-ghost use Rattle.segment_core.specs.Segments.{weigh};
+ghost use Rattle.segment_core.specs.Segments.{segment_sum};
 ghost use Rattle.segment_core.specs.Ledger.{KeepsLedger};
 
 use super::{PoolFault, Segment};
@@ -15,9 +15,9 @@ pub struct Purse {
 
 impl Model for Purse {
     ghost use Rattle.std.specs.Prelude.{◌≤◌, vec_len, vec_capacity};
-    ghost use Rattle.segment_core.specs.Segments.{Held};
+    ghost use Rattle.segment_core.specs.Segments.{PurseView};
 
-    ghost Value = { Held };
+    ghost Value = { PurseView };
 
     ghost view = { λ p. record { room = p.room; pages = p.items.items } };
 
@@ -46,7 +46,7 @@ impl Purse {
         ensures last { self.old.pages ≡ self.new.pages ++ option_to_list result }
         ensures room { self.new.room ≡ self.old.room }
         ensures segments { (h : ℕ → ℕ → ℕ) →
-            weigh h self.new.pages + weigh h (option_to_list result) ≡ weigh h self.old.pages }
+            segment_sum h self.new.pages + segment_sum h (option_to_list result) ≡ segment_sum h self.old.pages }
         ensures ledger { KeepsLedger (self.old.pages ∷ []) (self.new.pages ∷ option_to_list result ∷ []) }
     {
         self.items.pop()
@@ -58,7 +58,7 @@ impl Purse {
         ensures pages { self.new.pages ≡ self.old.pages ++ s ∷ [] }
         ensures room { self.new.room ≡ self.old.room }
         ensures segments { (h : ℕ → ℕ → ℕ) →
-            weigh h self.new.pages ≡ weigh h self.old.pages + weigh h (s ∷ []) }
+            segment_sum h self.new.pages ≡ segment_sum h self.old.pages + segment_sum h (s ∷ []) }
         ensures ledger { KeepsLedger (self.old.pages ∷ (s ∷ []) ∷ []) (self.new.pages ∷ []) }
     {
         self.items.push_reserved(s);
@@ -89,7 +89,7 @@ impl Purse {
         ensures room { result.1 ≡ self.room }
         ensures fits { vec_len result.0 ≤ self.room }
         ensures reserved { self.room ≤ vec_capacity result.0 }
-        ensures segments { (h : ℕ → ℕ → ℕ) → weigh h result.0.items ≡ weigh h self.pages }
+        ensures segments { (h : ℕ → ℕ → ℕ) → segment_sum h result.0.items ≡ segment_sum h self.pages }
     {
         let Purse { items, room } = self;
         (items, room)
@@ -100,7 +100,7 @@ impl Purse {
         requires fits { vec_len items ≤ room }
         requires reserved { room ≤ vec_capacity items }
         ensures purse { result ≡ record { room = room; pages = items.items } }
-        ensures segments { (h : ℕ → ℕ → ℕ) → weigh h result.pages ≡ weigh h items.items }
+        ensures segments { (h : ℕ → ℕ → ℕ) → segment_sum h result.pages ≡ segment_sum h items.items }
     {
         Purse { items, room }
     }

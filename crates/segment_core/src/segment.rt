@@ -18,10 +18,10 @@ pub struct Segment {
 
 impl Model for Segment {
     ghost use Rattle.std.specs.Prelude.{◌≤◌, vec_len};
-    ghost use Rattle.segment_core.specs.Segments.{Page};
+    ghost use Rattle.segment_core.specs.Segments.{SegmentView};
     ghost use Rattle.segment_core.specs.declared.segment.TheConstants.{SMALLEST_SIZE, LARGEST_SIZE};
 
-    ghost Value = { Page };
+    ghost Value = { SegmentView };
 
     ghost view = { λ s. record { id = s.id; bytes = s.bytes.items } };
 

@@ -1,5 +1,5 @@
 ghost use Rattle.std.specs.Prelude.{◌≡◌, ℕ};
-ghost use Rattle.segment_core.specs.Segments.{weigh};
+ghost use Rattle.segment_core.specs.Segments.{segment_sum};
 
 use super::*;
 use std::alloc::Global;
@@ -46,7 +46,7 @@ fn bad_sizes_are_told_before_bad_counts(rt: HostRuntime) {
 // Takes a segment out of a purse, looks at it, and puts it back marked. Its id, its size and the mark
 // that it had.
 fn mark_first(rt: &impl Abort, purse: &mut Purse, mark: u8) -> (u32, usize, u8)
-    ensures segments { (h : ℕ → ℕ → ℕ) → weigh h purse.new.pages ≡ weigh h purse.old.pages }
+    ensures segments { (h : ℕ → ℕ → ℕ) → segment_sum h purse.new.pages ≡ segment_sum h purse.old.pages }
 {
     let mut segment = purse.take().expect(rt, "the purse is empty");
     let seen = (segment.id(), segment.bytes().len(), segment.bytes()[0]);
@@ -59,7 +59,7 @@ fn mark_first(rt: &impl Abort, purse: &mut Purse, mark: u8) -> (u32, usize, u8)
 fn lease_fault(pool: &mut Pool, n: u32) -> Option<LeaseFault>
     ensures total { pool.new.total ≡ pool.old.total }
     ensures size { pool.new.size ≡ pool.old.size }
-    ensures segments { (h : ℕ → ℕ → ℕ) → weigh h pool.new.free ≡ weigh h pool.old.free }
+    ensures segments { (h : ℕ → ℕ → ℕ) → segment_sum h pool.new.free ≡ segment_sum h pool.old.free }
 {
     match pool.lease(n) {
         Ok(purse) => {

@@ -45,8 +45,8 @@ pub record IsWithdrawn (end next : ℕ) (old new : Blocks) : Type 0 where
   pub others : (block : ℕ) → block ≢ end → block ≢ next → new block ≡ old block
 
 -- Every block that isn't the run's is as it was.
-abbrev pub LeavesOthers : Run → (old new : Blocks) → Type 0
-LeavesOthers run old new =
+abbrev pub ForeignBlocksUnchanged : Run → (old new : Blocks) → Type 0
+ForeignBlocksUnchanged run old new =
     (block : ℕ) → (HasBlock old run.first run.pages block → ⊥) → new block ≡ old block
 
 -- No block of the run is live.
@@ -69,4 +69,4 @@ pub record IsBeingFreed (run : Run) (size number at left : ℕ) (old new : Block
   pub among : (block : ℕ) → HasBlock new at left block → HasBlock old run.first run.pages block
   pub freed : (block : ℕ) → HasBlock old run.first run.pages block → (new block ≡ None) ⊎ HasBlock new at left block
   pub kept : (block : ℕ) → HasBlock new at left block → new block ≡ old block
-  pub others : LeavesOthers run old new
+  pub others : ForeignBlocksUnchanged run old new

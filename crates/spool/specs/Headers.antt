@@ -1,11 +1,11 @@
 -- What the header of a run's page says. The rule is this project's own.
 use Rattle.std.specs.Prelude.{◌≡◌, ℕ, ◌%◌, ◌^◌, ◌<◌, ◌≤◌, List, ◌++◌, length, take, drop}
 use Rattle.std.specs.Int.{from_be_bytes, to_be_bytes, w32, w64}
-use Rattle.segment_core.specs.Segments.{Page}
+use Rattle.segment_core.specs.Segments.{SegmentView}
 use Rattle.paged_view.specs.Pages.{body, used}
 
 -- The bytes of a page on a disk, which keeps no id, seen as a page.
-abbrev pub as_page : List ℕ → Page
+abbrev pub as_page : List ℕ → SegmentView
 as_page bytes = record { id = 0; bytes = bytes }
 
 -- The page's number in its run, as its header says.
@@ -37,6 +37,6 @@ pub record IsSound (number : ℕ) (page : List ℕ) : Type 0 where
   pub numbered : number_of page ≡ header_number number
 
 -- The segment is the one that it was, with as many bytes.
-pub record IsSameSegment (old new : Page) : Type 0 where
+pub record IsSameSegment (old new : SegmentView) : Type 0 where
   pub id : new.id ≡ old.id
   pub len : length new.bytes ≡ length old.bytes

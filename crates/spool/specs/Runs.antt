@@ -2,7 +2,7 @@
 use Rattle.std.specs.Prelude.{◌≡◌, ◌⊎◌, ℕ, zero, suc, ◌+◌, List, [], ◌∷◌, Option, Some, None}
 use Rattle.std.specs.List.{flat_map}
 use Rattle.flow_outside.specs.Blocks.{Blocks, IsLive, HoldsPage}
-use Rattle.paged_view.specs.Pages.{part}
+use Rattle.paged_view.specs.Pages.{used_bytes}
 use Rattle.spool.specs.Headers.{as_page, next_of, IsSound}
 use Rattle.spool.specs.declared.run.Run.{Run}
 use Rattle.spool.specs.declared.writer.RunWriter.{RunWriter}
@@ -61,4 +61,4 @@ pub record IsWritten (blocks : Blocks) (size : ℕ) (writer : RunWriter) : Type 
 
 -- The used bytes of pages, one after the other.
 abbrev pub joined : List (List ℕ) → List ℕ
-joined pages = flat_map (λ page. part (as_page page)) pages
+joined pages = flat_map (λ page. used_bytes (as_page page)) pages

@@ -2,7 +2,7 @@ ghost use Rattle.std.specs.Prelude.{◌≡◌, ℕ, Option, OnOk, length};
 ghost use Rattle.flow_outside.specs.Blocks.{BothTold};
 ghost use Rattle.flow_outside.specs.Causes.{HasStreamCause};
 ghost use Rattle.flow_outside.specs.Told.{IfTold};
-ghost use Rattle.spool.specs.Changes.{IsFreed, IsPartlyFreed, LeavesOthers};
+ghost use Rattle.spool.specs.Changes.{IsFreed, IsPartlyFreed, ForeignBlocksUnchanged};
 ghost use Rattle.spool.specs.Headers.{IsSameSegment};
 ghost use Rattle.spool.specs.Runs.{IsRun};
 
@@ -24,7 +24,7 @@ pub fn discard<D: Spill>(run: Run, disk: &mut D, page: &mut Segment) -> Result<(
     ensures same { IsSameSegment page.old page.new }
     ensures freed { OnOk result (BothTold (D.told disk.old) (D.told disk.new) (IsFreed run)) }
     ensures partly { BothTold (D.told disk.old) (D.told disk.new) (IsPartlyFreed run) }
-    ensures others { BothTold (D.told disk.old) (D.told disk.new) (LeavesOthers run) }
+    ensures others { BothTold (D.told disk.old) (D.told disk.new) (ForeignBlocksUnchanged run) }
 {
     let mut reader = RunReader::start(&run);
     'pages: loop {

@@ -1,5 +1,5 @@
 ghost use Rattle.std.specs.Prelude.{◌≡◌, ◌↔◌, ℕ, ◌+◌, ◌<◌, ◌≤◌, IsTrue, length};
-ghost use Rattle.paged_view.specs.Pages.{body, part, used};
+ghost use Rattle.paged_view.specs.Pages.{body, used_bytes, used};
 ghost use Rattle.spool.specs.Headers.{IsSound, IsSameSegment, as_page, header_number, next_of, number_of, stamped, with_header};
 
 use paged_view::page::HEADER_SIZE;
@@ -63,7 +63,7 @@ pub(crate) fn next_block(page: &[u8]) -> u64
 pub(crate) fn stamp(page: &mut Segment, number: u64, next: u64)
     ensures bytes { page.new.bytes ≡ stamped page.old.bytes number next }
     ensures same { IsSameSegment page.old page.new }
-    ensures text { part page.new ≡ part page.old }
+    ensures text { used_bytes page.new ≡ used_bytes page.old }
     ensures names { next_of page.new.bytes ≡ next }
     ensures sound { 0 < used page.old → used page.old ≤ length (body page.old) → IsSound number page.new.bytes }
 {

@@ -2,7 +2,7 @@ ghost use Rattle.std.specs.Prelude.{◌≡◌, ◌≢◌, ℕ, ◌+◌, ◌^◌,
 ghost use Rattle.flow_outside.specs.Blocks.{BothTold, IsLive, IsGiven, Becomes};
 ghost use Rattle.flow_outside.specs.Causes.{HasCause, Rose};
 ghost use Rattle.flow_outside.specs.Told.{IfTold};
-ghost use Rattle.paged_view.specs.Pages.{body, part, used};
+ghost use Rattle.paged_view.specs.Pages.{body, used_bytes, used};
 ghost use Rattle.spool.specs.Changes.{AllStand, IsAppended, IsKept, IsPushed, IsReady, IsWithdrawn, LeavesOpen};
 ghost use Rattle.spool.specs.Headers.{IsSameSegment, IsSound, next_of, stamped};
 ghost use Rattle.spool.specs.Runs.{IsWritten};
@@ -53,7 +53,7 @@ impl RunWriter {
         ensures counted { OnOk result ((self.new.first ≡ self.old.first) × (self.new.pages ≡ self.old.pages + 1)) }
         ensures stamped { OnOk result (page.new.bytes ≡ stamped page.old.bytes self.old.pages self.new.end) }
         ensures same { IsSameSegment page.old page.new }
-        ensures text { part page.new ≡ part page.old }
+        ensures text { used_bytes page.new ≡ used_bytes page.old }
         ensures appended { OnOk result (BothTold (D.told disk.old) (D.told disk.new)
             (IsAppended self.old.end self.new.end page.new.bytes)) }
         ensures pushed { OnOk result (BothTold (D.told disk.old) (D.told disk.new)
@@ -105,7 +105,7 @@ fn append<D: Spill>(disk: &mut D, end: u64, number: u64, page: &mut Segment) -> 
     ensures names { IfOk result (λ next. next_of page.new.bytes ≡ next) }
     ensures stamped { IfOk result (λ next. page.new.bytes ≡ stamped page.old.bytes number next) }
     ensures same { IsSameSegment page.old page.new }
-    ensures text { part page.new ≡ part page.old }
+    ensures text { used_bytes page.new ≡ used_bytes page.old }
     ensures appended { IfOk result (λ next.
         BothTold (D.told disk.old) (D.told disk.new) (IsAppended end next page.new.bytes)) }
     ensures refused { OnErr result (BothTold (D.told disk.old) (D.told disk.new) (LeavesOpen end)) }

@@ -1,6 +1,6 @@
 ghost use Rattle.std.specs.Prelude.{◌≡◌, ℕ, ◌+◌, ◌<◌, ◌≤◌, None, length};
 ghost use Rattle.lot_store.specs.Lots.{empty, held};
-ghost use Rattle.segment_core.specs.Segments.{weigh};
+ghost use Rattle.segment_core.specs.Segments.{segment_sum};
 ghost use Rattle.spool.specs.Headers.{IsSameSegment};
 ghost use Rattle.worked_lots.specs.Worked.{Moves, Stands};
 
@@ -11,31 +11,31 @@ use lot_store::lot::Lot;
 use segment_core::{Purse, Segment};
 
 /// Makes these the used bytes of a page.
-fn fill_page(page: &mut Segment, part: &[u8])
-    requires { length part.now ≤ 4000 }
+fn fill_page(page: &mut Segment, used_bytes: &[u8])
+    requires { length used_bytes.now ≤ 4000 }
     ensures { IsSameSegment page.old page.new }
 {
     let _len = page.bytes().len();
-    write_part(page.bytes_mut(), part);
+    write_part(page.bytes_mut(), used_bytes);
 }
 
 /// Writes a page's number of used bytes, and these.
-fn write_part(bytes: &mut [u8], part: &[u8])
-    requires short { length part.now ≤ 4000 }
+fn write_part(bytes: &mut [u8], used_bytes: &[u8])
+    requires short { length used_bytes.now ≤ 4000 }
     requires long { 4096 ≤ length bytes.old }
 {
-    bytes[..4].copy_from_slice(&(part.len() as u32).to_be_bytes());
-    bytes[16..16 + part.len()].copy_from_slice(part);
+    bytes[..4].copy_from_slice(&(used_bytes.len() as u32).to_be_bytes());
+    bytes[16..16 + used_bytes.len()].copy_from_slice(used_bytes);
 }
 
 /// Adds a page with these used bytes, over a disk that doesn't tell.
 fn add_page<D: Spill>(
     lot: &mut Lot,
-    part: &[u8],
+    used_bytes: &[u8],
     purse: &mut Purse,
     disk: &mut D,
 ) -> Result<(), StreamFault>
-    requires short { length part.now ≤ 4000 }
+    requires short { length used_bytes.now ≤ 4000 }
     requires untold { D.told disk.old ≡ None }
     requires room { length purse.old.pages + length (held lot.old) ≤ purse.old.room }
     ensures untold { D.told disk.new ≡ None }
@@ -47,7 +47,7 @@ fn add_page<D: Spill>(
     match purse.take() {
         Some(page) => {
             let mut page = page;
-            fill_page(&mut page, part);
+            fill_page(&mut page, used_bytes);
             lot.append_page(page, purse, disk)
         }
         None => Ok(()),
@@ -97,7 +97,7 @@ pub(crate) fn with_cuts<D: Spill>(
     requires fresh { lot ≡ empty lot.stored.room 5 }
     requires room { length purse.old.pages ≤ purse.old.room }
     requires enough { lot.stored.room + 5 ≤ length purse.old.pages }
-    ensures { (h : ℕ → ℕ → ℕ) → weigh h purse.new.pages ≡ weigh h purse.old.pages }
+    ensures { (h : ℕ → ℕ → ℕ) → segment_sum h purse.new.pages ≡ segment_sum h purse.old.pages }
 {
     let mut lot = lot;
     let answer = cut_and_read(&mut lot, stream, bytes, len, purse, disk);

@@ -1,7 +1,7 @@
 ghost use Rattle.std.specs.Prelude.{◌≡◌, ℕ, ◌+◌, ◌<◌, ◌≤◌, [], None, OnOk, length};
 ghost use Rattle.lot_store.specs.Lots.{IsLeft, IsRewound, empty, held};
 ghost use Rattle.paged_view.specs.Streams.{KnowsRows};
-ghost use Rattle.segment_core.specs.Segments.{misfits, weigh};
+ghost use Rattle.segment_core.specs.Segments.{count_other_size, segment_sum};
 ghost use Rattle.worked_lots.specs.Worked.{CanAppend, CanRewind, Holds, Moves, ReadsOn, Stands};
 
 use crate::cuts::with_cuts;
@@ -260,10 +260,10 @@ fn with_lot<D: Spill>(
     requires short { len ≤ 12000 }
     requires bytes { len + 251 ≤ length bytes.now }
     requires fresh { lot ≡ empty lot.stored.room 5 }
-    requires sized { misfits 4096 purse.old.pages ≡ 0 }
+    requires sized { count_other_size 4096 purse.old.pages ≡ 0 }
     requires room { length purse.old.pages ≤ purse.old.room }
     requires enough { lot.stored.room + 5 ≤ length purse.old.pages }
-    ensures { (h : ℕ → ℕ → ℕ) → weigh h purse.new.pages ≡ weigh h purse.old.pages }
+    ensures { (h : ℕ → ℕ → ℕ) → segment_sum h purse.new.pages ≡ segment_sum h purse.old.pages }
 {
     let mut lot = lot;
     let answer = twice(&mut lot, bytes, count, len, purse, disk);

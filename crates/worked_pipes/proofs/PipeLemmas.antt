@@ -3,8 +3,8 @@ use Rattle.std.proofs.Common.{◌≡◌, ℕ, ◌+◌, ◌<◌, List, [], ◌∷
 use Rattle.flow_model.specs.declared.plan.Node.{Node}
 use Rattle.flow_model.specs.declared.plan.Plan.{Plan}
 use Rattle.flow_model.specs.Rules.{node_holds}
-use Rattle.segment_core.specs.Segments.{Held, Page, weigh}
-use Rattle.segment_core.proofs.Weighing.{weigh-ones}
+use Rattle.segment_core.specs.Segments.{PurseView, SegmentView, segment_sum}
+use Rattle.segment_core.proofs.Weighing.{segment_sum-ones}
 use Rattle.flow_outside.specs.Blocks.{Blocks}
 use Rattle.lot_store.specs.Lots.{LotView, empty, held}
 use Rattle.row_pipe.specs.Pipes.{Passes}
@@ -16,19 +16,19 @@ none_held : (a : LotView) (room reach : ℕ) → a ≡ empty room reach → leng
 none_held a room reach is = ap (λ l. length (held l)) is
 
 -- After a lot was filled and rested the purse has all but what the lot keeps.
-pub left_after : (a b c : LotView) (p q r : Held) (room reach : ℕ) → a ≡ empty room reach → Moves a b p q → Moves b c q r → length r.pages + length (held c) ≡ length p.pages
+pub left_after : (a b c : LotView) (p q r : PurseView) (room reach : ℕ) → a ≡ empty room reach → Moves a b p q → Moves b c q r → length r.pages + length (held c) ≡ length p.pages
 left_after a b c p q r room reach is f g =
     omega (arith, count_same a b p q f, count_same b c q r g, none_held a room reach is)
 
 -- So it is with two lots.
-pub left_in_all : (t u : Option Blocks) (a b c d x y : LotView) (p q r s : Held) (room reach : ℕ) → a ≡ empty room reach → x ≡ empty room reach → Moves a b p q → Moves b c q r → Passes t u c d x y r s
+pub left_in_all : (t u : Option Blocks) (a b c d x y : LotView) (p q r s : PurseView) (room reach : ℕ) → a ≡ empty room reach → x ≡ empty room reach → Moves a b p q → Moves b c q r → Passes t u c d x y r s
     → length s.pages + (length (held d) + length (held y)) ≡ length p.pages
 left_in_all t u a b c d x y p q r s room reach is out f g passes =
     omega (arith, left_after a b c p q r room reach is f g, passed_count t u c d x y r s passes, none_held x room reach out)
 
-pub all_count : (a b : LotView) (p q : List Page) → ((h : ℕ → ℕ → ℕ) → weigh h q + (weigh h (held a) + weigh h (held b)) ≡ weigh h p) → length q + (length (held a) + length (held b)) ≡ length p
+pub all_count : (a b : LotView) (p q : List SegmentView) → ((h : ℕ → ℕ → ℕ) → segment_sum h q + (segment_sum h (held a) + segment_sum h (held b)) ≡ segment_sum h p) → length q + (length (held a) + length (held b)) ≡ length p
 all_count a b p q segments =
-    omega (arith, segments (λ _ _. 1), weigh-ones q, weigh-ones (held a), weigh-ones (held b), weigh-ones p)
+    omega (arith, segments (λ _ _. 1), segment_sum-ones q, segment_sum-ones (held a), segment_sum-ones (held b), segment_sum-ones p)
 
 pub reach_of : (a : LotView) (room reach : ℕ) → a ≡ empty room reach → a.feed.reach ≡ reach
 reach_of a room reach is = ap (λ (l : LotView). l.feed.reach) is
@@ -36,11 +36,11 @@ reach_of a room reach is = ap (λ (l : LotView). l.feed.reach) is
 pub room_of : (a : LotView) (room reach : ℕ) → a ≡ empty room reach → a.stored.room ≡ room
 room_of a room reach is = ap (λ (l : LotView). l.stored.room) is
 
-pub taken_count : (p q : List Page) (o : Option Page) (s : Page) → o ≡ Some s → ((h : ℕ → ℕ → ℕ) → weigh h q + weigh h (option_to_list o) ≡ weigh h p) → length q + 1 ≡ length p
+pub taken_count : (p q : List SegmentView) (o : Option SegmentView) (s : SegmentView) → o ≡ Some s → ((h : ℕ → ℕ → ℕ) → segment_sum h q + segment_sum h (option_to_list o) ≡ segment_sum h p) → length q + 1 ≡ length p
 taken_count p q o s is segments =
-    omega (arith, segments (λ _ _. 1), weigh-ones q, weigh-ones p, ap (λ x. weigh (λ _ _. 1) (option_to_list x)) is, weigh-ones (s ∷ []))
+    omega (arith, segments (λ _ _. 1), segment_sum-ones q, segment_sum-ones p, ap (λ x. segment_sum (λ _ _. 1) (option_to_list x)) is, segment_sum-ones (s ∷ []))
 
-pub put_count : (p q : List Page) (s : Page) → q ≡ p ++ s ∷ [] → length q ≡ length p + 1
+pub put_count : (p q : List SegmentView) (s : SegmentView) → q ≡ p ++ s ∷ [] → length q ≡ length p + 1
 put_count p q s is = omega (arith, ap length is, length-append p (s ∷ []))
 
 -- A node of a plan keeps the rules.

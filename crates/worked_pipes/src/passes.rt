@@ -1,6 +1,6 @@
 ghost use Rattle.std.specs.Prelude.{◌≡◌, ℕ, ◌+◌, ◌<◌, ◌≤◌, None, OnOk, length};
 ghost use Rattle.lot_store.specs.Lots.{empty, held};
-ghost use Rattle.segment_core.specs.Segments.{weigh};
+ghost use Rattle.segment_core.specs.Segments.{segment_sum};
 ghost use Rattle.row_pipe.specs.Pipes.{Passes};
 
 use crate::lots::{Given, fill, read_all};
@@ -62,7 +62,7 @@ fn fill_and_pass<D: Spill>(
     requires room { length purse.old.pages ≤ purse.old.room }
     ensures untold { D.told disk.new ≡ None }
     ensures room { length purse.new.pages + (length (held input.new) + length (held out.new)) ≤ purse.new.room }
-    ensures segments { (h : ℕ → ℕ → ℕ) → weigh h purse.new.pages + (weigh h (held input.new) + weigh h (held out.new)) ≡ weigh h purse.old.pages }
+    ensures segments { (h : ℕ → ℕ → ℕ) → segment_sum h purse.new.pages + (segment_sum h (held input.new) + segment_sum h (held out.new)) ≡ segment_sum h purse.old.pages }
     ensures seat { purse.new.room ≡ purse.old.room }
 {
     match fill(input, records.given, records.count, purse, disk) {
@@ -95,7 +95,7 @@ fn with_lots<D: Spill>(
     requires fresh_out { out ≡ empty input.stored.room 3 }
     requires enough { input.stored.room + input.stored.room + 9 ≤ length purse.old.pages }
     requires room { length purse.old.pages ≤ purse.old.room }
-    ensures { (h : ℕ → ℕ → ℕ) → weigh h purse.new.pages ≡ weigh h purse.old.pages }
+    ensures { (h : ℕ → ℕ → ℕ) → segment_sum h purse.new.pages ≡ segment_sum h purse.old.pages }
 {
     let mut input = input;
     let mut out = out;

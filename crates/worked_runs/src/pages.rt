@@ -2,7 +2,7 @@ ghost use Rattle.std.specs.Prelude.{◌≡◌, ◌≤◌, ◌++◌, ℕ, IfOk, d
 ghost use Rattle.std.specs.Int.{to_be_bytes, w32};
 ghost use Rattle.flow_outside.specs.Told.{IfTold};
 ghost use Rattle.paged_view.specs.Pages.{used};
-ghost use Rattle.segment_core.specs.Segments.{weigh};
+ghost use Rattle.segment_core.specs.Segments.{segment_sum};
 ghost use Rattle.spool.specs.Headers.{IsSameSegment};
 ghost use Rattle.spool.specs.Ios.{HasSameParts};
 ghost use Rattle.spool.specs.Runs.{IsRun};
@@ -108,9 +108,9 @@ fn there_and_back<D: Spill>(disk: &mut D, page: &mut Segment, count: u8) -> Resu
 
 /// The same with the segment on top of a purse, which goes back.
 fn with_io<D: Spill>(rt: &impl Abort, io: &mut Io<'_, D>, count: u8) -> Result<u64, StreamFault>
-    ensures parts { HasSameParts io.old io.new }
+    ensures all_used_bytes { HasSameParts io.old io.new }
     ensures room { io.new.purse.now.room ≡ io.old.purse.now.room }
-    ensures segments { (h : ℕ → ℕ → ℕ) → weigh h io.new.purse.now.pages ≡ weigh h io.old.purse.now.pages }
+    ensures segments { (h : ℕ → ℕ → ℕ) → segment_sum h io.new.purse.now.pages ≡ segment_sum h io.old.purse.now.pages }
 {
     let mut page = io.purse.take().expect(rt, "no segment");
     let answer = there_and_back(io.disk, &mut page, count);
@@ -125,7 +125,7 @@ fn with_parts<D: Spill>(
     disk: &mut D,
     count: u8,
 ) -> Result<u64, StreamFault>
-    ensures { (h : ℕ → ℕ → ℕ) → weigh h purse.new.pages ≡ weigh h purse.old.pages }
+    ensures { (h : ℕ → ℕ → ℕ) → segment_sum h purse.new.pages ≡ segment_sum h purse.old.pages }
 {
     let mut io = Io { purse, disk };
     with_io(rt, &mut io, count)

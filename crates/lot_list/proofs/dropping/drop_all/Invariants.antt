@@ -1,9 +1,9 @@
 use Rattle.std.proofs.Common.{◌≡◌, ℕ, ◌+◌, ◌<◌, ◌≤◌, [], OnOk, length}
 use Rattle.flow_outside.specs.Blocks.{BothTold}
 use Rattle.flow_outside.specs.Causes.{HasStreamCause}
-use Rattle.segment_core.specs.Segments.{weigh}
+use Rattle.segment_core.specs.Segments.{segment_sum}
 use Rattle.lot_store.specs.Lots.{LotView, held}
-use Rattle.lot_list.specs.Together.{AreTogether, FreesFirst, LeavesTheRest, NoneLives, StayTogether, held_count, lot_at, weigh_held}
+use Rattle.lot_list.specs.Together.{AreTogether, FreesFirst, LeavesTheRest, NoneLives, StayTogether, held_count, lot_at, held_sum}
 use Rattle.lot_list.proofs.DropLemmas.{OwnsYet}
 use Rattle.lot_list.proofs.dropping.drop_all.Given as goal
 
@@ -21,6 +21,6 @@ invariant-loop-at g l = record {
   room : length l.purse.pages + held_count l.lots ≤ l.purse.room;
   together : AreTogether (g.D.Spill.told l.disk) l.lots l.purse.pages;
   empty : (i : ℕ) (d : LotView) → i < l.at → held (lot_at l.lots i d) ≡ [];
-  segments : (h : ℕ → ℕ → ℕ) → weigh h l.purse.pages + weigh_held h l.lots ≡ weigh h l.fn.purse.pages + weigh_held h l.fn.lots;
+  segments : (h : ℕ → ℕ → ℕ) → segment_sum h l.purse.pages + held_sum h l.lots ≡ segment_sum h l.fn.purse.pages + held_sum h l.fn.lots;
   seat : l.purse.room ≡ l.fn.purse.room;
 }

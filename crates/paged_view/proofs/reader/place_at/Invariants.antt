@@ -1,5 +1,5 @@
 use Rattle.std.proofs.Common.{◌≡◌, ◌≤◌, ◌-◌, length, vec_len, drop}
-use Rattle.paged_view.specs.Pages.{parts}
+use Rattle.paged_view.specs.Pages.{all_used_bytes}
 use Rattle.paged_view.specs.Reading.{unread}
 use Rattle.paged_view.proofs.reader.place_at.Given as goal
 
@@ -7,7 +7,7 @@ abbrev pub invariant-loop-page : goal.invariant-loop-page
 invariant-loop-page l = record {
   same : unread l.pages.items l.page l.off ≡ unread l.fn.pages.items l.fn.page l.fn.at;
   among : l.page ≤ vec_len l.pages;
-  within : l.off ≤ length (parts (drop l.page l.pages.items));
+  within : l.off ≤ length (all_used_bytes (drop l.page l.pages.items));
   later : l.fn.page ≤ l.page;
 }
 

@@ -1,5 +1,5 @@
 use Rattle.std.proofs.Common.{◌≡◌, ℕ}
-use Rattle.segment_core.specs.Segments.{weigh}
+use Rattle.segment_core.specs.Segments.{segment_sum}
 use Rattle.paged_view.specs.Streams.{KnowsRows}
 use Rattle.paged_view.proofs.samples.run_out.Given as goal
 
@@ -7,7 +7,7 @@ abbrev pub invariant-records : goal.invariant-records
 invariant-records g l = record {
   ready : g.R.RecordStream.IsReady l.stream;
   known : KnowsRows (g.D.Spill.told l.disk) (g.R.RecordStream.left l.stream (g.D.Spill.told l.disk));
-  segments : (h : ℕ → ℕ → ℕ) → weigh h (g.R.RecordStream.held l.stream) ≡ weigh h (g.R.RecordStream.held l.fn.stream);
+  segments : (h : ℕ → ℕ → ℕ) → segment_sum h (g.R.RecordStream.held l.stream) ≡ segment_sum h (g.R.RecordStream.held l.fn.stream);
   tells : g.D.Spill.told l.disk ≡ g.D.Spill.told l.fn.disk;
 }
 

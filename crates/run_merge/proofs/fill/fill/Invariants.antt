@@ -1,5 +1,5 @@
 use Rattle.std.proofs.Common.{◌≡◌, ℕ, ◌<◌, ◌≤◌, false, All, length, slice_index_or, sum_by}
-use Rattle.segment_core.specs.Segments.{weigh}
+use Rattle.segment_core.specs.Segments.{segment_sum}
 use Rattle.paged_view.specs.Streams.{KnowsRows}
 use Rattle.run_merge.specs.Merging.{Merges, Rows, WaitsFitting, most_of, yields}
 use Rattle.run_merge.specs.declared.source.Source.{Source}
@@ -15,7 +15,7 @@ invariant-loop-at g l = record {
       → Merges (g.O.RecordOrder.cmp l.order) (yields (g.O.RecordOrder.cmp l.order) (g.O.RecordOrder.is_fit l.order) g.R.RecordStream.shown g.R.RecordStream.left (g.D.Spill.told l.disk)) l.sources rows;
   later : sum_by (most_of g.R.RecordStream.shown g.R.RecordStream.most_left) l.sources ≤ sum_by (most_of g.R.RecordStream.shown g.R.RecordStream.most_left) l.fn.sources;
   count : length l.sources ≡ length l.fn.sources;
-  segments : (h : ℕ → ℕ → ℕ) → sum_by {X = Source g.row.R.Denot} (λ s. weigh h (g.R.RecordStream.held s.stream)) l.sources ≡ sum_by {X = Source g.row.R.Denot} (λ s. weigh h (g.R.RecordStream.held s.stream)) l.fn.sources;
+  segments : (h : ℕ → ℕ → ℕ) → sum_by {X = Source g.row.R.Denot} (λ s. segment_sum h (g.R.RecordStream.held s.stream)) l.sources ≡ sum_by {X = Source g.row.R.Denot} (λ s. segment_sum h (g.R.RecordStream.held s.stream)) l.fn.sources;
   tells : g.D.Spill.told l.disk ≡ g.D.Spill.told l.fn.disk;
   counted : g.D.Spill.given l.disk ≡ g.D.Spill.given l.fn.disk;
   faults : g.D.Spill.fault_count l.fn.disk ≤ g.D.Spill.fault_count l.disk;

@@ -1,4 +1,4 @@
-use Rattle.segment_core.specs.Segments.{weigh}
+use Rattle.segment_core.specs.Segments.{segment_sum}
 use Rattle.run_merge.specs.Merging.{WaitsFitting, most_of, yields}
 use Rattle.run_merge.proofs.PlaceLemmas.{all_with, known_at, merges_with, sum_falls, sum_stays}
 use Rattle.run_merge.proofs.fill.fill_at.Goals as goal
@@ -26,4 +26,4 @@ returns-clause-later g c =
 
 pub returns-clause-segments : goal.returns-clause-segments
 returns-clause-segments g c h =
-    sum_stays c.args.sources.now c.fill_place.new.sources c.args.at c.requires.there c.fill_place.ensures.count c.fill_place.ensures.same (λ s. weigh h (g.R.RecordStream.held s.stream)) (c.fill_place.ensures.segments h)
+    sum_stays c.args.sources.now c.fill_place.new.sources c.args.at c.requires.there c.fill_place.ensures.count c.fill_place.ensures.same (λ s. segment_sum h (g.R.RecordStream.held s.stream)) (c.fill_place.ensures.segments h)

@@ -1,5 +1,5 @@
 use Rattle.std.proofs.Common.{◌≡◌, None, is_some, length, sym, ap, subst, arith}
-use Rattle.segment_core.specs.Segments.{weigh}
+use Rattle.segment_core.specs.Segments.{segment_sum}
 use Rattle.paged_view.specs.Streams.{Advances}
 use Rattle.run_merge.specs.Merging.{IsBestBelow, Merges, Rows, shown_at, yields}
 use Rattle.run_merge.proofs.TakeLemmas.{advances_ended, advances_taken, shown_nowhere, shown_now, sum_less, sum_of_streams}
@@ -24,7 +24,7 @@ returns-in-Some-clause-later g c =
 
 pub returns-in-Some-clause-segments : goal.returns-in-Some-clause-segments
 returns-in-Some-clause-segments g c h =
-    sum_of_streams c.args.sources.now c.give.new.sources c.in-Some.place c.in-Some.ensures.1.there c.give.ensures.count c.give.ensures.same c.give.ensures.stream c.give.ensures.given (λ r. weigh h (g.R.RecordStream.held r))
+    sum_of_streams c.args.sources.now c.give.new.sources c.in-Some.place c.in-Some.ensures.1.there c.give.ensures.count c.give.ensures.same c.give.ensures.stream c.give.ensures.given (λ r. segment_sum h (g.R.RecordStream.held r))
 
 pub returns-in_default-clause-rows : goal.returns-in_default-clause-rows
 returns-in_default-clause-rows g c told =

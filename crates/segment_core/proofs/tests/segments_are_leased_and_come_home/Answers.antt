@@ -1,20 +1,20 @@
 -- The ledger of the opened pool has the pool and the purse that is still out as its holders.
 use Rattle.std.proofs.Common.{◌≡◌, ℕ, ◌+◌, [], ◌∷◌, arith}
 use Rattle.std.proofs.lemmas.Result.{IfOk-at_ok}
-use Rattle.segment_core.specs.Segments.{Stock, Held, weigh}
+use Rattle.segment_core.specs.Segments.{PoolView, PurseView, segment_sum}
 use Rattle.segment_core.specs.Ledger.{IsLedger}
-use Rattle.segment_core.proofs.Holders.{IsLedger-weigh_all, MayReturn-IsLedger}
+use Rattle.segment_core.proofs.Holders.{IsLedger-segment_sum_all, MayReturn-IsLedger}
 use Rattle.segment_core.proofs.tests.segments_are_leased_and_come_home.Goals as goal
 
 pub restore-requires-2 : goal.restore-requires-2
 restore-requires-2 g c =
-    let opened = IfOk-at_ok (λ (p : Stock). IsLedger p.total p.size (p.free ∷ [])) c.expect-pool.ensures c.open.ensures.ledger in
-    let first = IfOk-at_ok (λ (p : Held). (h : ℕ → ℕ → ℕ) → weigh h c.lease.new.self.free + weigh h p.pages ≡ weigh h c.expect-pool.result.free) c.expect-two.ensures c.lease.ensures.segments in
-    let second = IfOk-at_ok (λ (p : Held). (h : ℕ → ℕ → ℕ) → weigh h c.lease-2.new.self.free + weigh h p.pages ≡ weigh h c.lease_fault-2.new.pool.free) c.expect-one.ensures c.lease-2.ensures.segments in
+    let opened = IfOk-at_ok (λ (p : PoolView). IsLedger p.total p.size (p.free ∷ [])) c.expect-pool.ensures c.open.ensures.ledger in
+    let first = IfOk-at_ok (λ (p : PurseView). (h : ℕ → ℕ → ℕ) → segment_sum h c.lease.new.self.free + segment_sum h p.pages ≡ segment_sum h c.expect-pool.result.free) c.expect-two.ensures c.lease.ensures.segments in
+    let second = IfOk-at_ok (λ (p : PurseView). (h : ℕ → ℕ → ℕ) → segment_sum h c.lease-2.new.self.free + segment_sum h p.pages ≡ segment_sum h c.lease_fault-2.new.pool.free) c.expect-one.ensures c.lease-2.ensures.segments in
     let total : c.restore.new.self.total ≡ c.expect-pool.result.total = omega arith in
     let size : c.restore.new.self.size ≡ c.expect-pool.result.size = omega arith in
     let held : IsLedger c.restore.new.self.total c.restore.new.self.size (c.restore.new.self.free ∷ c.mark_first-2.new.purse.pages ∷ []) =
-    rw (total, size) (IsLedger-weigh_all _ _ (c.expect-pool.result.free ∷ []) _
+    rw (total, size) (IsLedger-segment_sum_all _ _ (c.expect-pool.result.free ∷ []) _
     (λ h. omega (arith, first h, second h, c.lease_fault.ensures.segments h, c.lease_fault-2.ensures.segments h, c.mark_first.ensures.segments h, c.mark_first-2.ensures.segments h, c.restore.ensures.segments h))
     opened) in
     MayReturn-IsLedger _ _ [] held

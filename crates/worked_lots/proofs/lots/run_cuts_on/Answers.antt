@@ -1,11 +1,11 @@
 -- What comes home weighs what was leased.
 use Rattle.std.proofs.lemmas.Result.{IfOk-at_ok}
-use Rattle.segment_core.specs.Segments.{Held}
+use Rattle.segment_core.specs.Segments.{PurseView}
 use Rattle.segment_core.specs.Ledger.{MayReturn}
-use Rattle.segment_core.proofs.Holders.{MayReturn-weigh}
+use Rattle.segment_core.proofs.Holders.{MayReturn-segment_sum}
 use Rattle.worked_lots.proofs.lots.run_cuts_on.Goals as goal
 
 pub restore-requires : goal.restore-requires
 restore-requires g c =
-    let may = IfOk-at_ok (λ (p : Held). MayReturn c.lease.new.self p.pages) c.expect-purse.ensures c.lease.ensures.may_return in
-    MayReturn-weigh c.lease.new.self c.expect-purse.result.pages c.with_cuts-answer.new.purse.pages c.with_cuts-answer.ensures may
+    let may = IfOk-at_ok (λ (p : PurseView). MayReturn c.lease.new.self p.pages) c.expect-purse.ensures c.lease.ensures.may_return in
+    MayReturn-segment_sum c.lease.new.self c.expect-purse.result.pages c.with_cuts-answer.new.purse.pages c.with_cuts-answer.ensures may

@@ -19,4 +19,4 @@ returns-then-trim-eq0-clause-pages g c =
 
 pub returns-clause-pages : goal.returns-clause-pages
 returns-clause-pages g c =
-    puts_page c.push_page.result _ _ c.args.self.now c.push_page.new.self c.args.page c.trim.new.page c.trim.ensures.same c.trim.ensures.part (omega (arith, c.trim.ensures.count, c.if-trim-eq0.false)) c.push_page.ensures.last c.push_page.ensures.pages
+    puts_page c.push_page.result _ _ c.args.self.now c.push_page.new.self c.args.page c.trim.new.page c.trim.ensures.same c.trim.ensures.used_bytes (omega (arith, c.trim.ensures.count, c.if-trim-eq0.false)) c.push_page.ensures.open_page c.push_page.ensures.pages

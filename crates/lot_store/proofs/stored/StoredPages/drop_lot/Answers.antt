@@ -16,10 +16,10 @@ end_run-requires-clause-stands g c =
 pub returns-in-Some-clause-keeps : goal.returns-in-Some-clause-keeps
 returns-in-Some-clause-keeps g c =
     keeps_ended _ _ c.args.self.now c.take_run.new.self c.args.purse.now.pages c.end_run.new.purse.pages c.in-Some.writer c.close.result
-    (moves_ended c.args.self.now c.give_all.new.self c.take_run.new.self c.args.purse.now.pages c.give_all.new.purse.pages c.end_run.new.purse.pages c.give_all.ensures.segments c.take_run.ensures.kept c.take_run.ensures.last c.end_run.ensures.segments)
+    (moves_ended c.args.self.now c.give_all.new.self c.take_run.new.self c.args.purse.now.pages c.give_all.new.purse.pages c.end_run.new.purse.pages c.give_all.ensures.segments c.take_run.ensures.kept c.take_run.ensures.open_page c.end_run.ensures.segments)
     (sym (c.in-Some.ensures.run ∙ c.give_all.ensures.run)) c.take_run.ensures.none c.close.ensures
     (stands_alone _ c.args.self.now c.take_run.new.self c.args.purse.now.pages c.end_run.new.purse.pages c.in-Some.writer c.close.result c.requires.sound
-    (moves_ended c.args.self.now c.give_all.new.self c.take_run.new.self c.args.purse.now.pages c.give_all.new.purse.pages c.end_run.new.purse.pages c.give_all.ensures.segments c.take_run.ensures.kept c.take_run.ensures.last c.end_run.ensures.segments)
+    (moves_ended c.args.self.now c.give_all.new.self c.take_run.new.self c.args.purse.now.pages c.give_all.new.purse.pages c.end_run.new.purse.pages c.give_all.ensures.segments c.take_run.ensures.kept c.take_run.ensures.open_page c.end_run.ensures.segments)
     (sym (c.in-Some.ensures.run ∙ c.give_all.ensures.run)) c.close.ensures)
     c.end_run.ensures.others
 
@@ -31,7 +31,7 @@ pub returns-in-None-clause-keeps : goal.returns-in-None-clause-keeps
 returns-in-None-clause-keeps g c =
     keeps_others _ _ c.args.self.now c.take_run.new.self c.args.purse.now.pages c.give_all.new.purse.pages
     (keeps_same_told _ c.args.self.now c.take_run.new.self c.args.purse.now.pages c.give_all.new.purse.pages
-    (moves_ended c.args.self.now c.give_all.new.self c.take_run.new.self c.args.purse.now.pages c.give_all.new.purse.pages c.give_all.new.purse.pages c.give_all.ensures.segments c.take_run.ensures.kept c.take_run.ensures.last (λ h. refl))
+    (moves_ended c.args.self.now c.give_all.new.self c.take_run.new.self c.args.purse.now.pages c.give_all.new.purse.pages c.give_all.new.purse.pages c.give_all.ensures.segments c.take_run.ensures.kept c.take_run.ensures.open_page (λ h. refl))
     (c.take_run.ensures.none ∙ c.in-None.ensures.run ∙ c.give_all.ensures.run))
 
 pub returns-in-None-clause-sound : goal.returns-in-None-clause-sound

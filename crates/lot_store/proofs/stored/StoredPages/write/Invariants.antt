@@ -7,7 +7,7 @@ use Rattle.lot_store.proofs.stored.StoredPages.write.Given as goal
 abbrev pub invariant-pieces : goal.invariant-pieces
 invariant-pieces g l = record {
   within : l.at ≤ length l.fn.bytes;
-  supply : 0 < length l.purse.pages + length l.self.last;
+  supply : 0 < length l.purse.pages + length l.self.open_page;
   later : g.D.Spill.fault_count l.fn.disk ≤ g.D.Spill.fault_count l.disk;
   added : BothTold (g.D.Spill.told l.fn.disk) (g.D.Spill.told l.disk) (AddsText l.fn.self l.self (take l.at l.fn.bytes));
   full : BothTold (g.D.Spill.told l.fn.disk) (g.D.Spill.told l.disk) (AddsFullPages l.fn.self l.self l.fn.purse.pages);

@@ -1,5 +1,5 @@
 use Rattle.std.proofs.Common.{◌+◌, ◌≤◌, ◌∷◌, length, sym, subst}
-use Rattle.paged_view.specs.Pages.{part}
+use Rattle.paged_view.specs.Pages.{used_bytes}
 use Rattle.lot_store.specs.Stores.{held}
 use Rattle.lot_store.proofs.LotLemmas.{sound_on}
 use Rattle.lot_store.proofs.StepLemmas.{adds_filled, fits_on, keeps_filled, moves_filled, moves_join}
@@ -8,7 +8,7 @@ use Rattle.lot_store.proofs.stored.StoredPages.write_piece.Goals as goal
 
 pub returns-in-Ok-clause-added : goal.returns-in-Ok-clause-added
 returns-in-Ok-clause-added g c =
-    adds_filled _ _ c.args.self.now c.next_page.new.self c.fill.new.self (part c.in-Ok.page) _ c.next_page.ensures.last c.fill.ensures.part c.fill.ensures.kept c.fill.ensures.run c.in-Ok.ensures.trades
+    adds_filled _ _ c.args.self.now c.next_page.new.self c.fill.new.self (used_bytes c.in-Ok.page) _ c.next_page.ensures.open_page c.fill.ensures.used_bytes c.fill.ensures.kept c.fill.ensures.run c.in-Ok.ensures.trades
 
 pub returns-in-Ok-clause-keeps : goal.returns-in-Ok-clause-keeps
 returns-in-Ok-clause-keeps g c =

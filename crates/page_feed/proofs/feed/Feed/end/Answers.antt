@@ -16,7 +16,7 @@ destroy_empty-requires-2 c =
 
 pub destroy_empty-requires-3 : goal.destroy_empty-requires-3
 destroy_empty-requires-3 c =
-    let none = holds_none (the_view c.self.inside) (ap held c.self.view_is ∙ c.requires) c.self.invariant.counts in omega (arith, none.last, c.self.inside.last.ok.0)
+    let none = holds_none (the_view c.self.inside) (ap held c.self.view_is ∙ c.requires) c.self.invariant.counts in omega (arith, none.open_page, c.self.inside.open_page.ok.0)
 
 pub destroy_empty-requires-4 : goal.destroy_empty-requires-4
 destroy_empty-requires-4 c =

@@ -1,13 +1,13 @@
 -- A page of the run is read and goes to the reader, or the segment is blank again.
 use Rattle.std.proofs.Common.{◌≡◌, ◌+◌, Ok, length, ap, ◌∙◌, arith}
-use Rattle.page_feed.specs.Feeds.{Fed, pages_to_read}
+use Rattle.page_feed.specs.Feeds.{FeedView, pages_to_read}
 use Rattle.page_feed.proofs.LeftLemmas.{goes_nowhere}
 use Rattle.page_feed.proofs.StepLemmas.{blank_there, count_read, read_failed, read_given, read_nothing, readable_first, still_told}
 use Rattle.page_feed.proofs.feed.Feed.give_read.Goals as goal
 
 pub read_page-requires : goal.read_page-requires
 read_page-requires g c =
-    readable_first _ c.args.self.now c.take_blank.new.self c.in-Some.page c.requires.known c.in-Some.ensures.blank (ap (λ (v : Fed). v.run) c.take_blank.ensures.others)
+    readable_first _ c.args.self.now c.take_blank.new.self c.in-Some.page c.requires.known c.in-Some.ensures.blank (ap (λ (v : FeedView). v.run) c.take_blank.ensures.others)
 
 pub unreachable-requires : goal.unreachable-requires
 unreachable-requires g c =
@@ -17,7 +17,7 @@ pub returns-in-Ok-true-clause-goes : goal.returns-in-Ok-true-clause-goes
 returns-in-Ok-true-clause-goes g c =
     let more = c.in-Ok-true.is ∙ ap Ok c.in-Ok-true.field-0-test in
     let fewer : pages_to_read c.take_blank.new.self.run ≡ pages_to_read c.read_page.new.self.run + 1 = c.read_page.ensures.fewer more in
-    let run : pages_to_read c.take_blank.new.self.run ≡ pages_to_read c.args.self.now.run = ap (λ (v : Fed). pages_to_read v.run) c.take_blank.ensures.others in
+    let run : pages_to_read c.take_blank.new.self.run ≡ pages_to_read c.args.self.now.run = ap (λ (v : FeedView). pages_to_read v.run) c.take_blank.ensures.others in
     read_given _ c.args.self.now c.take_blank.new.self c.read_page.new.self c.give_page.new.self c.in-Some.page c.read_page.new.page
     c.take_blank.ensures.others c.read_page.ensures.others c.give_page.ensures.others c.requires.out c.in-Some.ensures.blank c.read_page.ensures.same c.give_page.ensures.pages c.give_page.ensures.text
     c.take_blank.ensures.fed.text (count_read c.args.self.now c.take_blank.ensures.fed (omega (arith, fewer, run))) fewer c.give_page.ensures.most

@@ -1,13 +1,13 @@
 -- What moved to the purse and what stays free weigh together what was free.
 use Rattle.std.proofs.Common.{◌≡◌, ℕ, ◌+◌, ◌++◌, List, [], reverse, arith, ap}
-use Rattle.segment_core.specs.Segments.{Page, Stock, Held, weigh}
-use Rattle.segment_core.proofs.Weighing.{weigh-moved}
-use Rattle.segment_core.proofs.Holders.{IsPartOf-weigh, MayReturn-IsPartOf, KeepsLedger-weigh_all}
+use Rattle.segment_core.specs.Segments.{SegmentView, PoolView, PurseView, segment_sum}
+use Rattle.segment_core.proofs.Weighing.{segment_sum-moved}
+use Rattle.segment_core.proofs.Holders.{IsPartOf-segment_sum, MayReturn-IsPartOf, KeepsLedger-segment_sum_all}
 use Rattle.segment_core.proofs.pool.Pool.lease.Goals as goal
 
-leased : (total size room : ℕ) (free none rest moved : List Page) (old : Stock) (purse : Held) → record { total = total; size = size; free = free } ≡ old → none ≡ [] → rest ++ reverse moved ≡ free ++ reverse none → purse ≡ record { room = room; pages = moved } → (h : ℕ → ℕ → ℕ) → weigh h rest + weigh h purse.pages ≡ weigh h old.free
+leased : (total size room : ℕ) (free none rest moved : List SegmentView) (old : PoolView) (purse : PurseView) → record { total = total; size = size; free = free } ≡ old → none ≡ [] → rest ++ reverse moved ≡ free ++ reverse none → purse ≡ record { room = room; pages = moved } → (h : ℕ → ℕ → ℕ) → segment_sum h rest + segment_sum h purse.pages ≡ segment_sum h old.free
 leased total size room free none rest moved old purse pool empty zip held h =
-    omega (arith, weigh-moved h free none rest moved zip, ap (weigh h) empty, ap (λ (v : Held). weigh h v.pages) held, ap (λ (v : Stock). weigh h v.free) pool)
+    omega (arith, segment_sum-moved h free none rest moved zip, ap (segment_sum h) empty, ap (λ (v : PurseView). segment_sum h v.pages) held, ap (λ (v : PoolView). segment_sum h v.free) pool)
 
 pub returns-clause-segments : goal.returns-clause-segments
 returns-clause-segments c =
@@ -15,22 +15,22 @@ returns-clause-segments c =
 
 pub returns-clause-ledger : goal.returns-clause-ledger
 returns-clause-ledger c =
-    let weighs : (h : ℕ → ℕ → ℕ) → weigh h c.move_last.new.from.items + weigh h c.of_items.result.pages ≡ weigh h c.args.self.now.free = leased _ _ _ _ _ _ _ _ _ c.self.view_is c.in-Ok.ensures.items c.move_last.ensures.moved c.of_items.ensures.purse in
-    KeepsLedger-weigh_all _ _ (λ h. omega (arith, weighs h))
+    let weighs : (h : ℕ → ℕ → ℕ) → segment_sum h c.move_last.new.from.items + segment_sum h c.of_items.result.pages ≡ segment_sum h c.args.self.now.free = leased _ _ _ _ _ _ _ _ _ c.self.view_is c.in-Ok.ensures.items c.move_last.ensures.moved c.of_items.ensures.purse in
+    KeepsLedger-segment_sum_all _ _ (λ h. omega (arith, weighs h))
 
 pub returns-clause-may_return : goal.returns-clause-may_return
 returns-clause-may_return c =
-    let weighs : (h : ℕ → ℕ → ℕ) → weigh h c.move_last.new.from.items + weigh h c.of_items.result.pages ≡ weigh h c.args.self.now.free = leased _ _ _ _ _ _ _ _ _ c.self.view_is c.in-Ok.ensures.items c.move_last.ensures.moved c.of_items.ensures.purse in
-    MayReturn-IsPartOf c.self.inside.total c.self.inside.size c.self.inside.free.items _ _ (λ h. omega (arith, weighs h, ap (λ (v : Stock). weigh h v.free) c.self.view_is)) c.self.invariant.own
+    let weighs : (h : ℕ → ℕ → ℕ) → segment_sum h c.move_last.new.from.items + segment_sum h c.of_items.result.pages ≡ segment_sum h c.args.self.now.free = leased _ _ _ _ _ _ _ _ _ c.self.view_is c.in-Ok.ensures.items c.move_last.ensures.moved c.of_items.ensures.purse in
+    MayReturn-IsPartOf c.self.inside.total c.self.inside.size c.self.inside.free.items _ _ (λ h. omega (arith, weighs h, ap (λ (v : PoolView). segment_sum h v.free) c.self.view_is)) c.self.invariant.own
 
 pub invariant_of-self : goal.invariant_of-self
 invariant_of-self c =
-    let weighs : (h : ℕ → ℕ → ℕ) → weigh h c.move_last.new.from.items + weigh h c.of_items.result.pages ≡ weigh h c.args.self.now.free = leased _ _ _ _ _ _ _ _ _ c.self.view_is c.in-Ok.ensures.items c.move_last.ensures.moved c.of_items.ensures.purse in
+    let weighs : (h : ℕ → ℕ → ℕ) → segment_sum h c.move_last.new.from.items + segment_sum h c.of_items.result.pages ≡ segment_sum h c.args.self.now.free = leased _ _ _ _ _ _ _ _ _ c.self.view_is c.in-Ok.ensures.items c.move_last.ensures.moved c.of_items.ensures.purse in
     record {
       sized = c.self.invariant.sized;
       least = c.self.invariant.least;
       most = c.self.invariant.most;
-      own = IsPartOf-weigh _ _ c.self.inside.free.items _ (λ h. omega (arith, weighs h, ap (λ (v : Stock). weigh h v.free) c.self.view_is)) c.self.invariant.own;
+      own = IsPartOf-segment_sum _ _ c.self.inside.free.items _ (λ h. omega (arith, weighs h, ap (λ (v : PoolView). segment_sum h v.free) c.self.view_is)) c.self.invariant.own;
       fits = omega arith;
       reserved = omega arith;
     }

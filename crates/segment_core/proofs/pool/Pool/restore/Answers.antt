@@ -1,14 +1,14 @@
 -- The free segments and the purse's together are segments of the pool, and the list has space for all of these.
 use Rattle.std.proofs.Common.{◌≡◌, ◌++◌, List, arith, ap, sym, subst, length, length-append}
 use Rattle.std.proofs.lemmas.Grind.{common_steps}
-use Rattle.segment_core.specs.Segments.{Page, Stock}
+use Rattle.segment_core.specs.Segments.{SegmentView, PoolView}
 use Rattle.segment_core.specs.Ledger.{MayReturn, IsPartOf}
 use Rattle.segment_core.proofs.Holders.{IsPartOf-MayReturn, length-IsPartOf}
 use Rattle.segment_core.proofs.pool.Pool.restore.Goals as goal
 
-together : (total size : _) (free : List Page) (pool : Stock) (pages : List Page) → record { total = total; size = size; free = free } ≡ pool → IsPartOf total size free → MayReturn pool pages → IsPartOf total size (free ++ pages)
+together : (total size : _) (free : List SegmentView) (pool : PoolView) (pages : List SegmentView) → record { total = total; size = size; free = free } ≡ pool → IsPartOf total size free → MayReturn pool pages → IsPartOf total size (free ++ pages)
 together total size free pool pages is part may =
-    let P : Stock → _ = λ v. MayReturn v pages in IsPartOf-MayReturn _ pages part (subst P (sym is) may)
+    let P : PoolView → _ = λ v. MayReturn v pages in IsPartOf-MayReturn _ pages part (subst P (sym is) may)
 
 pub unwrap-requires : goal.unwrap-requires
 unwrap-requires c =
