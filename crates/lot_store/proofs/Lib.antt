@@ -8,4 +8,8 @@ pub mod StoreLemmas
 pub mod RestLemmas
 pub mod ReadLemmas
 pub mod RowLemmas
-pub mod LawLemmas
+pub mod Telling
+pub mod StorageSums
+pub mod StorageBlocks
+pub mod StorageLaws
+pub mod StorageLot

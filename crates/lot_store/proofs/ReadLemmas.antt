@@ -85,21 +85,6 @@ pages_begun b c begins =
     begins.run
     (ap (λ ks. ks ++ open_page_in c.feed) begins.open_page ∙ ap open_page_in begins.feed)
 
--- It is a lot.
-pub lot_begun : (s t : PagesView) (f g : FeedView) → HandsOver s t f g → f.room ≡ s.room → length s.kept ≤ s.room → All (λ page. 0 < length (used_bytes page)) s.kept → length s.open_page ≤ 1 → (0 < length s.open_page → 0 < used (page_at s.open_page 0)) → used (page_at s.open_page 0) ≤ length (body (page_at s.open_page 0)) → IsLot t g
-lot_begun s t f g over room fits filled one some within =
-    let kept : kept_in g ≡ s.kept = ap kept_in over.feed in
-    let open_page : open_page_in g ≡ s.open_page = ap open_page_in over.feed in
-    record {
-      room = ap (λ (e : FeedView). e.room) over.feed ∙ room ∙ sym over.room;
-      whole = λ _. omega (arith, ap length over.kept, ap length over.open_page);
-      fits = omega (arith, ap length kept, fits, over.room);
-      filled = subst (All (λ page. 0 < length (used_bytes page))) (sym kept) filled;
-      one = omega (arith, ap length open_page, one);
-      some = subst (λ ps. 0 < length ps → 0 < used (page_at ps 0)) (sym open_page) some;
-      within = subst (λ ps. used (page_at ps 0) ≤ length (body (page_at ps 0))) (sym open_page) within;
-    }
-
 -- What is left of a lot that is read from its first page on.
 left_at : (m : Blocks) (s t : PagesView) (f g : FeedView) (size : ℕ) (rows : List (List ℕ)) → HandsOver s t f g → count_other_size size g.blank ≡ 0 → IsSpilled m size s.run
     → text_stored m s ≡ frames rows → All (λ row. length row < 2 ^ 32) rows → IsWithinReach f.reach (sizes_stored m s) rows → HasLeft m g rows
@@ -220,17 +205,6 @@ rows_out (Err fault) told now a b shown same known = tt
 rows_out (Ok more) None now a b shown same known = λ rows left. absurd left
 rows_out (Ok more) (Some m) now a b shown same known =
     λ rows left. subst (λ o. Advances rows more shown (IsLeft b o)) (sym same) (known rows left)
-
-pub lot_moved : (s : PagesView) (f g : FeedView) → IsLot s f → g.room ≡ f.room → kept_in g ≡ kept_in f → open_page_in g ≡ open_page_in f → IsLot s g
-lot_moved s f g lot room kept open_page = record {
-  room = room ∙ lot.room;
-  whole = subst (λ ks. 0 < length ks + length (open_page_in g) → length s.kept + length s.open_page ≡ 0) (sym kept) (subst (λ ls. 0 < length (kept_in f) + length ls → length s.kept + length s.open_page ≡ 0) (sym open_page) lot.whole);
-  fits = omega (arith, ap length kept, lot.fits);
-  filled = subst (All (λ page. 0 < length (used_bytes page))) (sym kept) lot.filled;
-  one = omega (arith, ap length open_page, lot.one);
-  some = subst (λ ps. 0 < length ps → 0 < used (page_at ps 0)) (sym open_page) lot.some;
-  within = subst (λ ps. used (page_at ps 0) ≤ length (body (page_at ps 0))) (sym open_page) lot.within;
-}
 
 pub pages_moved : (s : PagesView) (f g : FeedView) → kept_in g ≡ kept_in f → open_page_in g ≡ open_page_in f → pages_of (record { stored = s; feed = g }) ≡ pages_of (record { stored = s; feed = f })
 pages_moved s f g kept open_page =

@@ -29,18 +29,6 @@ pages_at_rest b r h rest =
     stored_same b.stored.room b.stored.room (b.stored.kept ++ kept_in b.feed) b.stored.kept b.stored.run b.stored.run (b.stored.open_page ++ open_page_in b.feed) b.stored.open_page
     refl (ap (λ f. b.stored.kept ++ kept_in f) rest ∙ append-nil b.stored.kept) refl (ap (λ f. b.stored.open_page ++ open_page_in f) rest ∙ append-nil b.stored.open_page)
 
--- Such a lot is one.
-pub lot_at_rest : (s : PagesView) (f : FeedView) (r h : ℕ) → f ≡ stopped r h → r ≡ s.room → IsLot s f
-lot_at_rest s f r h rest room = subst (λ g. IsLot s g) (sym rest) (record {
-  room = room;
-  whole = λ some. absurd (omega (arith, some));
-  fits = omega arith;
-  filled = All-nil (λ page. 0 < length (used_bytes page));
-  one = omega arith;
-  some = λ some. absurd (omega (arith, some));
-  within = omega arith;
-})
-
 -- What segments of another size weigh.
 abbrev misfit : ℕ → ℕ → ℕ → ℕ
 misfit size = λ _ n. cond (not (n == size)) 1 0

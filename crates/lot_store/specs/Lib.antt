@@ -4,4 +4,6 @@ pub mod Keeping
 pub mod Lots
 pub mod LotKeeping
 pub mod Reads
+pub mod Storage
+pub mod LotCalls
 pub mod Laws

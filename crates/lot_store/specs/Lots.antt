@@ -83,7 +83,8 @@ abbrev pub IsSound : Option Blocks → LotView → (purse : List SegmentView) �
 IsSound told lot purse = IfTold told (λ blocks. (size : ℕ) × StandsWith size lot purse blocks)
 
 -- What is true of every lot: its feed takes as many pages as it keeps. Where the feed has any of its pages, it has all
--- that stand in segments. Some bytes of each are used, and of the open page no more than it has.
+-- that stand in segments. Some bytes of each are used, and of the open page no more than it has. It reads no run where no
+-- page was spilled.
 pub record IsLot (stored : PagesView) (feed : FeedView) : Type 0 where
   pub room : feed.room ≡ stored.room
   pub whole : 0 < length (kept_in feed) + length (open_page_in feed) → length stored.kept + length stored.open_page ≡ 0
@@ -92,3 +93,4 @@ pub record IsLot (stored : PagesView) (feed : FeedView) : Type 0 where
   pub one : length (open_page_in feed) ≤ 1
   pub some : 0 < length (open_page_in feed) → 0 < used (page_at (open_page_in feed) 0)
   pub within : used (page_at (open_page_in feed) 0) ≤ length (body (page_at (open_page_in feed) 0))
+  pub reads : stored.run ≡ None → feed.run ≡ None

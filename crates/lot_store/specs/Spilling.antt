@@ -1,5 +1,5 @@
 -- Pages of a lot that lie on a disk. The rules are this project's own.
-use Rattle.std.specs.Prelude.{◌≡◌, ◌≤◌, ◌⊎◌, ℕ, List, [], ◌∷◌, ◌++◌, Option, Some, None, Result, IsErrOf, ⊤}
+use Rattle.std.specs.Prelude.{◌≡◌, ◌<◌, ◌≤◌, ◌⊎◌, ℕ, List, [], ◌∷◌, ◌++◌, Option, Some, None, Result, IsErrOf, ⊤}
 use Rattle.flow_outside.specs.Blocks.{Blocks, IsLive}
 use Rattle.flow_outside.specs.Causes.{Rose}
 use Rattle.flow_outside.specs.declared.failure.StreamFault.{StreamFault}
@@ -18,6 +18,11 @@ spilled blocks (Some run) = pages_at blocks run.first run.pages
 abbrev pub IsSpilled : Blocks → (size : ℕ) → Option RunWriter → Type 0
 IsSpilled blocks size None = ⊤
 IsSpilled blocks size (Some run) = IsWritten blocks size run
+
+-- A run has a page at least.
+abbrev pub IsBegun : Option RunWriter → Type 0
+IsBegun None = ⊤
+IsBegun (Some run) = 0 < run.pages
 
 -- This block is one of the run's.
 abbrev pub OwnsBlock : Blocks → Option RunWriter → (block : ℕ) → Type 0

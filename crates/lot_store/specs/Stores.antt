@@ -8,7 +8,7 @@ use Rattle.spool.specs.Headers.{as_page}
 use Rattle.spool.specs.Runs.{joined}
 use Rattle.spool.specs.declared.writer.RunWriter.{RunWriter}
 use Rattle.page_feed.specs.Reach.{sizes_of}
-use Rattle.lot_store.specs.Spilling.{IsSpilled, spilled}
+use Rattle.lot_store.specs.Spilling.{IsBegun, IsSpilled, spilled}
 
 -- Pages that are written one behind the other are seen as the most full pages that are kept in segments, the first pages,
 -- which are kept in segments, the run of those behind them, which are spilled, and the open page behind all of
@@ -48,16 +48,19 @@ pub record StandsWith (size : ℕ) (lot : PagesView) (purse : List SegmentView) 
 abbrev pub IsSound : Option Blocks → PagesView → (purse : List SegmentView) → Type 0
 IsSound told lot purse = IfTold told (λ blocks. (size : ℕ) × StandsWith size lot purse blocks)
 
--- Some bytes of each page are used, and of the open page, of which there is one at most, no more than it has.
+-- Some bytes of each page are used, and of the open page, of which there is one at most, no more than it has. A run has a
+-- page at least.
 pub record ArePages (lot : PagesView) : Type 0 where
   pub filled : All (λ page. 0 < length (used_bytes page)) lot.kept
   pub one : length lot.open_page ≤ 1
   pub some : 0 < length lot.open_page → 0 < used (page_at lot.open_page 0)
   pub within : used (page_at lot.open_page 0) ≤ length (body (page_at lot.open_page 0))
+  pub begun : IsBegun lot.run
 
 -- What is always true of them: the list of kept pages, of `len`, has space reserved for its room, and the list of the page
--- under way, of `count`, for one. Some bytes of each page are used, and of the open page no more than it has.
-pub record IsStore (kept open_page : List SegmentView) (len capacity room count space : ℕ) : Type 0 where
+-- under way, of `count`, for one. Some bytes of each page are used, and of the open page no more than it has. A run has a page
+-- at least.
+pub record IsStore (kept open_page : List SegmentView) (len capacity room : ℕ) (run : Option RunWriter) (count space : ℕ) : Type 0 where
   pub filled : All (λ page. 0 < length (used_bytes page)) kept
   pub fits : len ≤ room
   pub reserved : room ≤ capacity
@@ -65,3 +68,4 @@ pub record IsStore (kept open_page : List SegmentView) (len capacity room count 
   pub place : 1 ≤ space
   pub some : 0 < count → 0 < used (page_at open_page 0)
   pub within : used (page_at open_page 0) ≤ length (body (page_at open_page 0))
+  pub begun : IsBegun run

@@ -14,13 +14,8 @@ use flow_types::span::Span;
 use segment_core::{Purse, Segment};
 
 impl Lot {
-    /// Adds a record behind the others: its length and its bytes, which go on in the next page where a page
-    /// ends. A page that is full is kept, where there is room for it, no page was spilled yet and the purse
-    /// has another segment, and else it is spilled. The lot stops being read before.
-    ///
-    /// `Spill` only where the disk's count of faults rose in this call; what the lot stands for is then open.
-    /// It copies the record's bytes by pieces, and a page costs one write at most. It takes no memory.
-    pub fn append<X: Span, D: Spill>(
+    // `append`, told by this lot alone.
+    pub(crate) fn add_row<X: Span, D: Spill>(
         &mut self,
         row: &X,
         purse: &mut Purse,
@@ -54,13 +49,8 @@ impl Lot {
         answer
     }
 
-    /// Adds a page's used bytes behind the lot's: all that stand behind its header, where the header says more.
-    /// A record that the page leaves begun counts once a later page ends it. It copies no byte of them. The
-    /// page becomes the one under way, and the one that was is kept or spilled; a page of which no byte is used
-    /// goes to the purse. The lot stops being read before.
-    ///
-    /// `Spill` only where the disk's count of faults rose in this call; what the lot stands for is then open.
-    pub fn append_page<D: Spill>(
+    // `append_page`, told by this lot alone.
+    pub(crate) fn add_page<D: Spill>(
         &mut self,
         page: Segment,
         purse: &mut Purse,

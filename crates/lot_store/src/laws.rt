@@ -1,7 +1,7 @@
 //! Laws of the definitions in `specs/`. Each function does nothing; its contract is the law.
-ghost use Rattle.lot_store.specs.Laws.{OtherLotsStay};
+ghost use Rattle.lot_store.specs.Laws.{StorageLaws};
 
-/// A call over one lot leaves each lot that stood apart from it, with its disk, as it was.
-pub fn other_lots_stay()
-    ensures { OtherLotsStay }
+/// What is so of the relation that every call over lots keeps.
+pub fn storage_laws()
+    ensures { StorageLaws }
 {}

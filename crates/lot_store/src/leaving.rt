@@ -1,7 +1,8 @@
-ghost use Rattle.std.specs.Prelude.{◌≡◌, ◌+◌, ◌<◌, ◌≤◌, [], None, OnOk, IsSome, length};
+ghost use Rattle.std.specs.Prelude.{◌≡◌, ◌+◌, ◌<◌, ◌≤◌, [], None, Ok, OnOk, IsSome, length};
 ghost use Rattle.flow_outside.specs.Blocks.{BothTold};
 ghost use Rattle.flow_outside.specs.Causes.{HasStreamCause};
 ghost use Rattle.lot_store.specs.LotKeeping.{AddsText, Keeps, KeepsOthers, KeepsRows, MovesSegments};
+ghost use Rattle.lot_store.specs.LotCalls.{spilled_count};
 ghost use Rattle.lot_store.specs.Lots.{IsSound, held, pages_of};
 ghost use Rattle.lot_store.specs.Spilling.{FreesBlocks, HasWriteCause};
 ghost use Rattle.page_feed.specs.Feeds.{lent, stopped};
@@ -12,12 +13,12 @@ use flow_outside::spill::Spill;
 use segment_core::Purse;
 
 impl Lot {
-    /// Stops reading, and leaves at most `room` segments in the lot, whatever it answers: the segments for
-    /// reading go to the purse, and the open page is spilled exactly where the lot then still holds more,
-    /// with one write.
-    ///
-    /// `Spill` only where the disk's count of faults rose in this call; what the lot stands for is then open.
-    pub fn rest<D: Spill>(&mut self, purse: &mut Purse, disk: &mut D) -> Result<(), StreamFault>
+    // `rest`, told by this lot alone.
+    pub(crate) fn come_to_rest<D: Spill>(
+        &mut self,
+        purse: &mut Purse,
+        disk: &mut D,
+    ) -> Result<(), StreamFault>
         requires room { length purse.old.pages + length (held self.old) ≤ purse.old.room }
         requires sound { IsSound (D.told disk.old) self.old purse.old.pages }
         ensures cause { HasWriteCause (D.fault_count disk.old) (D.fault_count disk.new) result }
@@ -39,12 +40,12 @@ impl Lot {
         self.stored.rest(purse, disk)
     }
 
-    /// Empties the lot: its segments go to the purse, and the blocks of its spilled pages end. It reads each
-    /// spilled page once.
-    ///
-    /// `Spill` only where the disk's count of faults rose in this call, `Damaged` only over a disk that
-    /// doesn't tell. The segments are then in the purse too, and each of the lot's blocks is free or as it was.
-    pub fn drop_lot<D: Spill>(&mut self, purse: &mut Purse, disk: &mut D) -> Result<(), StreamFault>
+    // `drop_lot`, told by this lot alone.
+    pub(crate) fn give_up<D: Spill>(
+        &mut self,
+        purse: &mut Purse,
+        disk: &mut D,
+    ) -> Result<(), StreamFault>
         requires supply { IsSome self.old.stored.run → 0 < length purse.old.pages + length (held self.old) }
         requires room { length purse.old.pages + length (held self.old) ≤ purse.old.room }
         requires sound { IsSound (D.told disk.old) self.old purse.old.pages }
@@ -59,8 +60,11 @@ impl Lot {
         ensures room { purse.new.room ≡ purse.old.room }
         ensures own { self.new.stored.room ≡ self.old.stored.room }
         ensures rest { self.new.feed ≡ stopped self.old.feed.room self.old.feed.reach }
+        ensures seat { self.old.feed.room ≡ self.old.stored.room }
+        ensures quiet { spilled_count self.old.stored.run ≡ 0 → (disk.new ≡ disk.old) × (result ≡ Ok tt) }
     {
         self.stop(purse);
+        self.stored.limits();
         self.stored.drop_lot(purse, disk)
     }
 }

@@ -3,6 +3,7 @@ ghost use Rattle.flow_outside.specs.Blocks.{BothTold};
 ghost use Rattle.flow_outside.specs.Causes.{HasStreamCause};
 ghost use Rattle.flow_outside.specs.Told.{IfTold};
 ghost use Rattle.lot_store.specs.LotKeeping.{Keeps, MovesSegments};
+ghost use Rattle.lot_store.specs.LotCalls.{spilled_count};
 ghost use Rattle.lot_store.specs.Lots.{HoldsRows, IsLeft, IsRewound, IsSound, StandsWith, held as segments_of, pages_of};
 ghost use Rattle.page_feed.specs.Feeds.{HasLeft, block_of, lent, most_left as most_in};
 ghost use Rattle.paged_view.specs.Seen.{seen_in};
@@ -17,9 +18,12 @@ use paged_view::stream::RecordStream;
 use segment_core::Purse;
 
 impl Lot {
-    /// Begins to read the lot's records, at the first. It takes `reach` segments for reading out of the purse,
-    /// and calls no device: its answer is always Ok.
-    pub fn rewind<D: Spill>(&mut self, purse: &mut Purse, disk: &mut D) -> Result<(), StreamFault>
+    // `rewind`, told by this lot alone.
+    pub(crate) fn begin_again<D: Spill>(
+        &mut self,
+        purse: &mut Purse,
+        disk: &mut D,
+    ) -> Result<(), StreamFault>
         requires supply { self.old.feed.reach ≤ length purse.old.pages + length (lent self.old.feed) }
         requires room { length purse.old.pages + length (segments_of self.old) ≤ purse.old.room }
         requires sound { IsSound (D.told disk.old) self.old purse.old.pages }
@@ -44,24 +48,9 @@ impl Lot {
         self.begin(purse);
         Ok(())
     }
-}
 
-impl<D: Spill> RecordStream<D> for Lot {
-    ghost left = { λ lot told rows. IsLeft lot told rows };
-
-    ghost IsReady = { λ lot. IsRewound lot };
-
-    ghost shown = { λ lot. lot.feed.shown };
-
-    ghost block_read = { λ lot. block_of lot.feed.run };
-
-    ghost most_left = { λ lot. most_in lot.feed };
-
-    ghost held = { λ lot. segments_of lot };
-
-    /// Its own clauses say what stays, whatever it answers: the lot's pages, its records, and that it stands
-    /// beside its purse.
-    fn advance(&mut self, disk: &mut D) -> Result<bool, StreamFault>
+    // `read_next`, told by this lot alone.
+    pub(crate) fn step<D: Spill>(&mut self, disk: &mut D) -> Result<bool, StreamFault>
         requires ready { IsRewound self.old }
         requires known { KnowsRows (D.told disk.old) (IsLeft self.old (D.told disk.old)) }
         ensures ready { IsRewound self.new }
@@ -85,8 +74,30 @@ impl<D: Spill> RecordStream<D> for Lot {
             HoldsRows blocks self.old rows → HoldsRows blocks self.new rows) }
         ensures stands { IfTold (D.told disk.old) (λ blocks. (size : ℕ) (purse : List SegmentView) →
             StandsWith size self.old purse blocks → StandsWith size self.new purse blocks) }
+        ensures same_run { self.new.stored.run ≡ self.old.stored.run }
+        ensures quiet { spilled_count self.old.stored.run ≡ 0 → (disk.new ≡ disk.old) × (IsErrOf result StreamFault.Spill → ⊥) }
     {
+        // What is true of its pages and its feed, for the prover alone.
+        self.stored.limits();
         self.feed.advance(disk)
+    }
+}
+
+impl<D: Spill> RecordStream<D> for Lot {
+    ghost left = { λ lot told rows. IsLeft lot told rows };
+
+    ghost IsReady = { λ lot. IsRewound lot };
+
+    ghost shown = { λ lot. lot.feed.shown };
+
+    ghost block_read = { λ lot. block_of lot.feed.run };
+
+    ghost most_left = { λ lot. most_in lot.feed };
+
+    ghost held = { λ lot. segments_of lot };
+
+    fn advance(&mut self, disk: &mut D) -> Result<bool, StreamFault> {
+        self.read_next(disk)
     }
 
     fn head(&self) -> Option<RecordRef<'_>>

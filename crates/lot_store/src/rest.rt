@@ -1,4 +1,4 @@
-ghost use Rattle.std.specs.Prelude.{◌≡◌, ℕ, ◌+◌, ◌<◌, ◌≤◌, [], ◌∷◌, ◌++◌, None, OnOk, IsSome, length};
+ghost use Rattle.std.specs.Prelude.{◌≡◌, ℕ, ◌+◌, ◌<◌, ◌≤◌, [], ◌∷◌, ◌++◌, None, Ok, OnOk, IsSome, length};
 ghost use Rattle.flow_outside.specs.Blocks.{BothTold};
 ghost use Rattle.flow_outside.specs.Causes.{HasStreamCause};
 ghost use Rattle.flow_outside.specs.Told.{IfTold};
@@ -73,6 +73,7 @@ impl StoredPages {
         ensures segments { MovesSegments self.old self.new purse.old.pages purse.new.pages }
         ensures room { purse.new.room ≡ purse.old.room }
         ensures own { self.new.room ≡ self.old.room }
+        ensures quiet { self.old.run ≡ None → (disk.new ≡ disk.old) × (result ≡ Ok tt) }
     {
         self.give_all(purse);
         match self.take_run() {

@@ -2,7 +2,7 @@ ghost use Rattle.std.specs.Prelude.{◌≡◌, ◌<◌, ◌≤◌, IfOk, OnOk, O
 ghost use Rattle.flow_outside.specs.Blocks.{BothTold};
 ghost use Rattle.flow_outside.specs.Causes.{HasCause};
 ghost use Rattle.flow_outside.specs.Told.{IfTold};
-ghost use Rattle.lot_store.specs.Spilling.{HasWriteCause, IsLonger, IsSpilled, IsUnchanged};
+ghost use Rattle.lot_store.specs.Spilling.{HasWriteCause, IsBegun, IsLonger, IsSpilled, IsUnchanged};
 ghost use Rattle.paged_view.specs.Pages.{body, used_bytes, used};
 ghost use Rattle.spool.specs.Headers.{IsSameSegment};
 ghost use Rattle.spool.specs.Runs.{IsWritten};
@@ -22,6 +22,7 @@ pub(crate) fn spill<D: Spill>(
     requires some { 0 < used page.old }
     requires within { used page.old ≤ length (body page.old) }
     requires stands { IfTold (D.told disk.old) (λ blocks. IsSpilled blocks (length page.old.bytes) run.old) }
+    requires begun { IsBegun run.old }
     ensures cause { HasWriteCause (D.fault_count disk.old) (D.fault_count disk.new) result }
     ensures same { IsSameSegment page.old page.new }
     ensures used_bytes { used_bytes page.new ≡ used_bytes page.old }
@@ -29,6 +30,7 @@ pub(crate) fn spill<D: Spill>(
         (IsLonger (length page.old.bytes) run.old run.new page.new.bytes)) }
     ensures refused { OnErr result (BothTold (D.told disk.old) (D.told disk.new)
         (IsUnchanged (length page.old.bytes) run.old run.new)) }
+    ensures begun { IsBegun run.new }
 {
     match run.take() {
         Some(writer) => push_behind(run, writer, disk, page),
@@ -46,6 +48,7 @@ fn push_behind<D: Spill>(
     requires some { 0 < used page.old }
     requires within { used page.old ≤ length (body page.old) }
     requires stands { IfTold (D.told disk.old) (λ blocks. IsWritten blocks (length page.old.bytes) writer) }
+    requires begun { 0 < writer.pages }
     ensures cause { HasWriteCause (D.fault_count disk.old) (D.fault_count disk.new) result }
     ensures same { IsSameSegment page.old page.new }
     ensures used_bytes { used_bytes page.new ≡ used_bytes page.old }
@@ -53,6 +56,7 @@ fn push_behind<D: Spill>(
         (IsLonger (length page.old.bytes) (Some writer) run.new page.new.bytes)) }
     ensures refused { OnErr result (BothTold (D.told disk.old) (D.told disk.new)
         (IsUnchanged (length page.old.bytes) (Some writer) run.new)) }
+    ensures begun { IsBegun run.new }
 {
     let mut writer = writer;
     match writer.push(disk, page) {
@@ -83,6 +87,7 @@ fn push_first<D: Spill>(
         (IsLonger (length page.old.bytes) None run.new page.new.bytes)) }
     ensures refused { OnErr result (BothTold (D.told disk.old) (D.told disk.new)
         (IsUnchanged (length page.old.bytes) None run.new)) }
+    ensures begun { IsBegun run.new }
 {
     match begin(disk, page) {
         Ok(writer) => {
@@ -104,6 +109,7 @@ fn begin<D: Spill>(disk: &mut D, page: &mut Segment) -> Result<RunWriter, Failed
         (IsLonger (length page.old.bytes) None (Some writer) page.new.bytes)) }
     ensures refused { OnErr result (BothTold (D.told disk.old) (D.told disk.new)
         (IsUnchanged (length page.old.bytes) None None)) }
+    ensures begun { IfOk result (λ writer. 0 < writer.pages) }
 {
     let mut writer = RunWriter::start(disk)?;
     match writer.push(disk, page) {

@@ -3,6 +3,7 @@ ghost use Rattle.lot_store.specs.Keeping.{MovesSegments};
 ghost use Rattle.segment_core.specs.Segments.{segment_sum};
 ghost use Rattle.flow_outside.specs.Blocks.{BothTold};
 ghost use Rattle.flow_outside.specs.Told.{IfTold};
+ghost use Rattle.lot_store.specs.LotCalls.{spilled_count};
 ghost use Rattle.lot_store.specs.Stores.{ArePages, held};
 ghost use Rattle.lot_store.specs.Spilling.{HasWriteCause, IsLonger, IsSpilled, IsUnchanged};
 ghost use Rattle.lot_store.specs.Reads.{HandsOver};
@@ -43,7 +44,7 @@ impl Model for StoredPages {
     } };
 
     ghost invariant = { λ l.
-        IsStore l.kept.items l.open_page.items (vec_len l.kept) (vec_capacity l.kept) l.room (vec_len l.open_page) (vec_capacity l.open_page) };
+        IsStore l.kept.items l.open_page.items (vec_len l.kept) (vec_capacity l.kept) l.room l.run (vec_len l.open_page) (vec_capacity l.open_page) };
 }
 
 impl StoredPages {
@@ -117,6 +118,16 @@ impl StoredPages {
         ensures own { self.new.room ≡ self.old.room }
     {
         spill(&mut self.run, disk, page)
+    }
+
+    /// How many pages were spilled.
+    pub(crate) fn spilled(&self) -> u64
+        ensures { result ≡ spilled_count self.now.run }
+    {
+        match &self.run {
+            Some(writer) => writer.run().pages,
+            None => 0,
+        }
     }
 
     /// Whether it holds no more segments than its room.

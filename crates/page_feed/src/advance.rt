@@ -43,6 +43,8 @@ impl Feed {
             (D.told disk.old) result }
         ensures damaged { (block : ℕ) → IsErrOf result (StreamFault.Damaged block) →
             block ≡ block_of self.new.run }
+        ensures quiet { self.old.run ≡ None →
+            (disk.new ≡ disk.old) × ((self.new.run ≡ None) × (IsErrOf result StreamFault.Spill → ⊥)) }
     {
         'pages: loop {
             if self.show_next() {

@@ -1,4 +1,4 @@
-ghost use Rattle.std.specs.Prelude.{◌≡◌, ◌↔◌, ℕ, ◌+◌, ◌<◌, ◌≤◌, ◌⊎◌, true, false, [], ◌∷◌, ◌++◌, Option, Some, None, Ok, IsTrue, IsErrOf, IfNone, length, option_to_list};
+ghost use Rattle.std.specs.Prelude.{◌≡◌, ◌↔◌, ℕ, ◌+◌, ◌<◌, ◌≤◌, ◌⊎◌, true, false, [], ◌∷◌, ◌++◌, Option, Some, None, Ok, IsTrue, IsErrOf, IfNone, is_ok, length, option_to_list};
 ghost use Rattle.flow_outside.specs.Blocks.{Blocks};
 ghost use Rattle.flow_outside.specs.Causes.{HasStreamCause};
 ghost use Rattle.flow_outside.specs.Told.{IfTold};
@@ -97,6 +97,7 @@ impl Feed {
             (D.told disk.old) result }
         ensures damaged { (block : ℕ) → IsErrOf result (StreamFault.Damaged block) →
             block ≡ block_of self.new.run }
+        ensures quiet { self.old.run ≡ None → (disk.new ≡ disk.old) × ((self.new.run ≡ None) × (is_ok result ≡ true)) }
     {
         if self.is_full() {
             return Ok(false);
@@ -128,6 +129,7 @@ impl Feed {
         ensures fewer { IsTrue result → pages_to_give self.new < pages_to_give self.old }
         ensures stays { result ≡ false → self.new ≡ self.old }
         ensures out { result ≡ false → self.old.ahead ≡ [] }
+        ensures run { self.new.run ≡ self.old.run }
         ensures none { self.new.shown ≡ None }
     {
         let Some(page) = self.ahead.pop() else {
@@ -156,6 +158,7 @@ impl Feed {
             (D.told disk.old) result }
         ensures damaged { (block : ℕ) → IsErrOf result (StreamFault.Damaged block) →
             block ≡ block_of self.new.run }
+        ensures quiet { self.old.run ≡ None → (result ≡ Ok false) × (disk.new ≡ disk.old) }
     {
         match self.take_blank() {
             Some(page) => {
@@ -211,6 +214,7 @@ impl Feed {
         ensures spill { IsErrOf result StreamFault.Spill → self.new.run ≡ self.old.run }
         ensures damaged { (block : ℕ) → IsErrOf result (StreamFault.Damaged block) →
             block ≡ block_of self.new.run }
+        ensures quiet { self.old.run ≡ None → (result ≡ Ok false) × (disk.new ≡ disk.old) }
     {
         read_next(&mut self.run, disk, page)
     }
@@ -253,6 +257,7 @@ impl Feed {
         ensures fewer { IsTrue result → pages_to_give self.new < pages_to_give self.old }
         ensures stays { result ≡ false → self.new ≡ self.old }
         ensures out { result ≡ false → self.old.open_page ≡ [] }
+        ensures run { self.new.run ≡ self.old.run }
         ensures none { self.new.shown ≡ None }
     {
         let Some(page) = self.open_page.pop() else {
@@ -285,6 +290,7 @@ fn read_next<D: Spill>(
         HasBlockLeft blocks run.new block → HasBlockLeft blocks run.old block) }
     ensures spill { IsErrOf result StreamFault.Spill → run.new ≡ run.old }
     ensures damaged { (block : ℕ) → IsErrOf result (StreamFault.Damaged block) → block ≡ block_of run.new }
+    ensures quiet { run.old ≡ None → (result ≡ Ok false) × (disk.new ≡ disk.old) }
 {
     match run {
         Some(reader) => reader.next(disk, page),

@@ -12,45 +12,24 @@ use Rattle.flow_types.specs.Values.{flag_of}
 use Rattle.flow_types.specs.Expressions.{val}
 use Rattle.flow_model.specs.declared.op.Branch.{Branch}
 use Rattle.flow_model.specs.Rows.{branch_rows, columns_of}
-use Rattle.lot_store.specs.LotKeeping.{AddsRow, Keeps}
+use Rattle.lot_store.specs.LotCalls.{AppendsRow, IsSupplied, Writes}
 use Rattle.lot_store.specs.Lots.{HoldsRows, LotView}
+use Rattle.lot_store.specs.Storage.{StaysStanding, alone}
 use Rattle.lot_store.proofs.LotLemmas.{on_ok_map}
 use Rattle.lot_store.proofs.SpillLemmas.{told_join, told_with}
-use Rattle.row_pipe.specs.Pipes.{AddsRows, AreWithin, HasPlaceFor, Writes, most_touched}
-use Rattle.row_pipe.proofs.Telling.{told_after, told_same}
-
-keeps_join : (a b c : LotView) (p q r : List SegmentView) (k m n : Blocks) → Keeps a b p q k m → Keeps b c q r m n → Keeps a c p r k n
-keeps_join a b c p q r k m n f g = record {
-  stands = λ size s. g.stands size (f.stands size s);
-  others = λ block live other.
-      let x = f.others block live other in
-      let y = g.others block (λ none. live (sym x.0 ∙ none)) x.1 in (y.0 ∙ x.0, y.1);
-  owns = λ block s. g.owns block (f.owns block s);
-}
+use Rattle.lot_store.proofs.StorageLaws.{preserves_join, preserves_more, preserves_none, ready_after}
+use Rattle.lot_store.proofs.StorageLot.{one_stands}
+use Rattle.lot_store.proofs.Telling.{told_after, told_same}
+use Rattle.row_pipe.specs.Pipes.{AddsRows, AreWithin, CanAdd, HasPlaceFor, most_touched}
 
 -- two calls, one after the other
-pub writes_join : (t u v : Option Blocks) (a b c : LotView) (p q r : PurseView) → Writes t u a b p q → Writes u v b c q r → Writes t v a c p r
-writes_join t u v a b c p q r f g = record {
-  keeps = told_join t u v (Keeps a b p.pages q.pages) (Keeps b c q.pages r.pages) (Keeps a c p.pages r.pages) (λ k m n. keeps_join a b c p.pages q.pages r.pages k m n) f.keeps g.keeps;
-  segments = λ h. omega (arith, f.segments h, g.segments h);
-  purse_room = g.purse_room ∙ f.purse_room;
-  lot_room = g.lot_room ∙ f.lot_room;
-  reach = g.reach ∙ f.reach;
-}
+pub writes_join : (t u v : Option Blocks) (a b c : LotView) (p q r : PurseView) → Writes t u p q a b → Writes u v q r b c → Writes t v p r a c
+writes_join t u v a b c p q r f g = preserves_join (alone t p a) (alone u q b) (alone v r c) (0 ∷ []) (0 ∷ []) true f g
 
 -- nothing was done
-pub writes_none : (t : Option Blocks) (lot : LotView) (purse : PurseView) → Writes t t lot lot purse purse
-writes_none t lot purse = record {
-  keeps = told_same t (Keeps lot lot purse.pages purse.pages) (λ m. record {
-    stands = λ size s. s;
-    others = λ block live other. (refl, other);
-    owns = λ block s. s;
-  });
-  segments = λ h. refl;
-  purse_room = refl;
-  lot_room = refl;
-  reach = refl;
-}
+pub writes_none : (t : Option Blocks) (lot : LotView) (purse : PurseView) → Writes t t purse purse lot lot
+writes_none t lot purse =
+    preserves_more (alone t purse lot) (alone t purse lot) [] [] (0 ∷ []) (0 ∷ []) true true (λ i none. tt) (λ i none. tt) (λ is. is) (preserves_none (alone t purse lot))
 
 pub adds_join : (a b c : LotView) (xs ys : List (List ℕ)) (k m n : Blocks) → AddsRows a b xs k m → AddsRows b c ys m n → AddsRows a c (xs ++ ys) k n
 adds_join a b c xs ys k m n f g all h = subst (HoldsRows n c) (append_assoc all xs ys) (g (all ++ xs) (f all h))
@@ -66,11 +45,11 @@ added_none t lot = told_same t (AddsRows lot lot []) (adds_none lot)
 
 -- Where there is a place for the record, appending it adds it.
 pub added_row : {E : Type 0} (answer : Result Unit E) (t u : Option Blocks) (a b : LotView) (p : List SegmentView) (row : List ℕ) → IfTold t (HasPlaceFor (row ∷ []) a p)
-    → OnOk answer (BothTold t u (AddsRow a b p row)) → OnOk answer (BothTold t u (AddsRows a b (row ∷ [])))
+    → OnOk answer (BothTold t u (AppendsRow a b p row)) → OnOk answer (BothTold t u (AddsRows a b (row ∷ [])))
 added_row answer t u a b p row place adds =
-    on_ok_map answer (BothTold t u (AddsRow a b p row)) (BothTold t u (AddsRows a b (row ∷ [])))
-    (λ h. told_with t u (HasPlaceFor (row ∷ []) a p) (AddsRow a b p row) (AddsRows a b (row ∷ []))
-    (λ m n here one all holds. one here.size here.stands all holds (All-head (λ (bytes : List ℕ). most_touched here.size (length bytes) ≤ a.feed.reach) row [] here.within)) place h)
+    on_ok_map answer (BothTold t u (AppendsRow a b p row)) (BothTold t u (AddsRows a b (row ∷ [])))
+    (λ h. told_with t u (HasPlaceFor (row ∷ []) a p) (AppendsRow a b p row) (AddsRows a b (row ∷ []))
+    (λ m n here one all holds. one.rows here.size (one_stands here.size p a m here.stand) all holds (All-head (λ (bytes : List ℕ). most_touched here.size (length bytes) ≤ a.feed.reach) row [] here.within)) place h)
     adds
 
 -- Of what is made of the elements that pass, what is so of all is so of what is made of one.
@@ -109,17 +88,17 @@ within_one size reach branches i d row low h =
 
 -- The place for all that is given of branches is one for what is given of one of them, also after others were added.
 pub place_at : (t u : Option Blocks) (a b : LotView) (p q : PurseView) (branches : List Branch) (i : ℕ) (d : Branch) (row : Tuple) → i < length branches
-    → IfTold t (HasPlaceFor (map form (branch_rows branches row)) a p.pages) → Writes t u a b p q
+    → IfTold t (HasPlaceFor (map form (branch_rows branches row)) a p.pages) → Writes t u p q a b
     → IfTold u (HasPlaceFor (map form (branch_rows (get_or branches i d ∷ []) row)) b q.pages)
 place_at t u a b p q branches i d row low place writes =
-    told_after t u (HasPlaceFor (map form (branch_rows branches row)) a p.pages) (HasPlaceFor (map form (branch_rows (get_or branches i d ∷ []) row)) b q.pages) (Keeps a b p.pages q.pages)
-    (λ m n here keeps. record {
+    told_after t u (HasPlaceFor (map form (branch_rows branches row)) a p.pages) (HasPlaceFor (map form (branch_rows (get_or branches i d ∷ []) row)) b q.pages) (StaysStanding (alone t p a) (alone u q b) (0 ∷ []) true)
+    (λ m n here stays. record {
       size = here.size;
-      stands = keeps.stands here.size here.stands;
-      within = subst (λ (reach : ℕ). AreWithin here.size reach (map form (branch_rows (get_or branches i d ∷ []) row))) (sym writes.reach)
+      stand = stays.stand here.size here.stand;
+      within = subst (λ (reach : ℕ). AreWithin here.size reach (map form (branch_rows (get_or branches i d ∷ []) row))) (sym (writes.reach 0 a))
           (within_one here.size a.feed.reach branches i d row low here.within);
     })
-    place writes.keeps
+    place writes.told
 
 -- What is given of one branch more stands behind what is given of those before.
 pub branches_more : (branches : List Branch) (i : ℕ) (d : Branch) (row : Tuple) → i < length branches
@@ -139,7 +118,7 @@ added_branch t u v a b c branches i d row low f g =
 
 -- the same of a branch that a loop is at
 pub place_of : (t u : Option Blocks) (a b : LotView) (p q : PurseView) (branches : List Branch) (i : ℕ) (x : Branch) (row : Tuple) → i < length branches → x ≡ get_or branches i x
-    → IfTold t (HasPlaceFor (map form (branch_rows branches row)) a p.pages) → Writes t u a b p q
+    → IfTold t (HasPlaceFor (map form (branch_rows branches row)) a p.pages) → Writes t u p q a b
     → IfTold u (HasPlaceFor (map form (branch_rows (x ∷ []) row)) b q.pages)
 place_of t u a b p q branches i x row low is place writes =
     subst (λ y. IfTold u (HasPlaceFor (map form (branch_rows (y ∷ []) row)) b q.pages)) (sym is) (place_at t u a b p q branches i x row low place writes)
@@ -149,3 +128,8 @@ pub added_of : (t u v : Option Blocks) (a b c : LotView) (branches : List Branch
     → BothTold t v (AddsRows a c (map form (branch_rows (take (i + 1) branches) row)))
 added_of t u v a b c branches i x row low is f g =
     added_branch t u v a b c branches i x row low f (subst (λ y. BothTold u v (AddsRows b c (map form (branch_rows (y ∷ []) row)))) is g)
+
+-- Where a record was added, the next may be.
+pub can_add_on : {E : Type 0} (answer : Result Unit E) (t u : Option Blocks) (a b : LotView) (p q : PurseView) → OnOk answer (IsSupplied q b) → Writes t u p q a b → CanAdd t a p → OnOk answer (CanAdd u b q)
+can_add_on answer t u a b p q supply writes can =
+    on_ok_map answer (IsSupplied q b) (CanAdd u b q) (λ h. record { supply = h; ready = ready_after (alone t p a) (alone u q b) (0 ∷ []) (0 ∷ []) true writes can.ready }) supply

@@ -1,4 +1,3 @@
-pub mod Telling
 pub mod Adding
 pub mod Passing
 pub mod Turning

@@ -1,99 +1,89 @@
 -- How a lot begins to be read beside another, and how both come to rest.
-use Rattle.std.proofs.Common.{Result, OnOk, ◌≡◌, ℕ, ◌+◌, ◌<◌, ◌≤◌, List, length, Option, Some, None, ap, subst, arith, length-append}
+use Rattle.std.proofs.Common.{Result, OnOk, ◌≡◌, ◌≢◌, ℕ, ◌+◌, ◌<◌, ◌≤◌, true, List, [], ◌∷◌, length, Option, Some, None, ap, subst, sym, arith, length-append}
 use Rattle.segment_core.specs.Segments.{PurseView, SegmentView}
-use Rattle.segment_core.proofs.Weighing.{segment_sum-ones}
 use Rattle.flow_outside.specs.Blocks.{Blocks, BothTold}
 use Rattle.flow_outside.specs.Told.{IfTold}
 use Rattle.flow_types.specs.Types.{Fields}
-use Rattle.page_feed.specs.Feeds.{FeedView, HasLeft, IsStarted, lent, stopped}
-use Rattle.lot_store.specs.LotKeeping.{Keeps, KeepsRows, MovesSegments}
-use Rattle.lot_store.specs.Lots.{HoldsRows, IsSound, LotView, held, pages_of}
+use Rattle.flow_model.specs.Env.{Tuples}
+use Rattle.page_feed.specs.Feeds.{FeedView, HasLeft, IsStarted, lent}
+use Rattle.lot_store.specs.LotCalls.{KeepsContents, Reads, Writes}
+use Rattle.lot_store.specs.LotKeeping.{KeepsRows}
+use Rattle.lot_store.specs.Lots.{HoldsRows, LotView, held, pages_of}
+use Rattle.lot_store.specs.Storage.{IsReady, Stand, alone, held_count, pair}
 use Rattle.lot_store.specs.Stores.{PagesView, held as held_stored}
 use Rattle.lot_store.proofs.LotLemmas.{on_ok_map}
-use Rattle.row_pipe.specs.Pipes.{CanAdd, GivesAll, GivesRows, HasPlaces, Passes, StaysBeside, Writes}
+use Rattle.lot_store.proofs.StorageLaws.{counts_after}
+use Rattle.lot_store.proofs.Telling.{told_map}
+use Rattle.std.proofs.lemmas.List.Sums.{sum_by-cons}
+use Rattle.row_pipe.specs.Pipes.{CanAdd, GivesAll, GivesRows, HasPlaces, HoldsTuples, HoldsWhatFits, LeavesTuples, MayPass, Passes}
 use Rattle.row_pipe.specs.declared.work.Work.{Work}
-use Rattle.row_pipe.proofs.Passing.{passes_turned, places_on}
+use Rattle.row_pipe.proofs.Passing.{passes_join, passes_read, passes_written, places_on, ready_on, ready_second}
 use Rattle.row_pipe.proofs.Turning.{gives_rows}
 
--- what moves between a lot and a purse, as numbers of segments
-moved_count : (a b : LotView) (p q : List SegmentView) → MovesSegments a b p q → length q + length (held b) ≡ length p + length (held a)
-moved_count a b p q moves = omega (arith, moves (λ _ _. 1), segment_sum-ones q, segment_sum-ones (held b), segment_sum-ones p, segment_sum-ones (held a))
+one_count : (lot : LotView) → held_count (lot ∷ []) ≡ length (held lot)
+one_count lot = omega (arith, sum_by-cons (λ (l : LotView). length (held l)) lot [])
 
-pub passed_count : (t u : Option Blocks) (a b x y : LotView) (p q : PurseView) → Passes t u a b x y p q → length q.pages + (length (held b) + length (held y)) ≡ length p.pages + (length (held a) + length (held x))
-passed_count t u a b x y p q passes =
-    omega (arith, passes.segments (λ _ _. 1), segment_sum-ones q.pages, segment_sum-ones (held b), segment_sum-ones (held y), segment_sum-ones p.pages, segment_sum-ones (held a), segment_sum-ones (held x))
+segments_of : (a : LotView) → length (held a) ≡ length (held_stored (pages_of a)) + length (lent a.feed)
+segments_of a = length-append (held_stored (pages_of a)) (lent a.feed)
 
-held_count : (a : LotView) → length (held a) ≡ length (held_stored (pages_of a)) + length (lent a.feed)
-held_count a = length-append (held_stored (pages_of a)) (lent a.feed)
+same_segments : (a b : LotView) → pages_of b ≡ pages_of a → length (held_stored (pages_of b)) ≡ length (held_stored (pages_of a))
+same_segments a b pages = ap (λ s. length (held_stored s)) pages
 
-same_count : (a b : LotView) → pages_of b ≡ pages_of a → length (held_stored (pages_of b)) ≡ length (held_stored (pages_of a))
-same_count a b pages = ap (λ s. length (held_stored s)) pages
+pub places_of : (t : Option Blocks) (fields : Fields) (w : Work) (a x : LotView) (p : List SegmentView) → IfTold t (HoldsWhatFits fields w a x p) → IfTold t (HasPlaces fields w a x p)
+places_of None fields w a x p holds = tt
+places_of (Some m) fields w a x p holds = holds.places
 
-out_sound : (t : Option Blocks) (fields : Fields) (w : Work) (input out : LotView) (p : List SegmentView) → IfTold t (HasPlaces fields w input out p) → IsSound t out p
-out_sound None fields w input out p places = tt
-out_sound (Some m) fields w input out p places = (places.size, places.stands.out)
-
-input_sound : (t : Option Blocks) (fields : Fields) (w : Work) (input out : LotView) (p : List SegmentView) → IfTold t (HasPlaces fields w input out p) → IsSound t input p
-input_sound None fields w input out p places = tt
-input_sound (Some m) fields w input out p places = (places.size, places.stands.input)
+-- A call may work on both lots.
+pub ready_pair : (t : Option Blocks) (fields : Fields) (w : Work) (a x : LotView) (p : PurseView) → MayPass a x p → IfTold t (HasPlaces fields w a x p.pages) → IsReady (pair t p a x)
+ready_pair t fields w a x p may places = record { room = may.room; stand = known t places }
+  where
+    known : (o : Option Blocks) → IfTold o (HasPlaces fields w a x p.pages) → IfTold o (λ m. (size : ℕ) × Stand size p.pages (a ∷ x ∷ []) m)
+    known None h = tt
+    known (Some m) h = (h.size, h.stand)
 
 -- Where the purse has more than the segments for reading, a record may be added to the other lot.
-pub can_begin : (t u : Option Blocks) (fields : Fields) (w : Work) (a b out : LotView) (p q : PurseView) → Passes t u a b out out p q → MovesSegments a b p.pages q.pages → IsStarted b.feed
-    → a.feed.reach < length p.pages → length p.pages + (length (held a) + length (held out)) ≤ p.room → IfTold t (HasPlaces fields w a out p.pages) → CanAdd u out q
-can_begin t u fields w a b out p q passes moves started supply room places =
-    let count = moved_count a b p.pages q.pages moves in
-    let some : 0 < length q.pages = omega (arith, count, held_count a, held_count b, same_count a b passes.pages, started, passes.input_reach, supply) in
+pub can_begin : (t u : Option Blocks) (fields : Fields) (w : Work) (a b x : LotView) (p q : PurseView) → Reads t u p q a b → IsStarted b.feed → MayPass a x p → IfTold t (HasPlaces fields w a x p.pages) → CanAdd u x q
+can_begin t u fields w a b x p q reads started may places =
+    let some : 0 < length q.pages =
+    omega (arith, counts_after (alone t p a) (alone u q b) (0 ∷ []) [] true reads, one_count a, one_count b, segments_of a, segments_of b, same_segments a b (reads.pages 0 a tt), started, reads.reach 0 a, may.supply) in
     record {
       supply = omega (arith, some);
-      room = omega (arith, count, room, passes.purse_room);
-      sound = out_sound u fields w b out q.pages (places_on t u fields w a b out out p q passes places);
+      ready = ready_second u q b x (ready_on t u a b x x p q (passes_read t u a b x p q reads) (ready_pair t fields w a x p may places));
     }
 
--- There is room for all segments of the lot that was read.
-pub room_for_input : (t u : Option Blocks) (a b x y : LotView) (p q : PurseView) → Passes t u a b x y p q → length p.pages + (length (held a) + length (held x)) ≤ p.room → length q.pages + length (held b) ≤ q.room
-room_for_input t u a b x y p q passes room = omega (arith, passed_count t u a b x y p q passes, room, passes.purse_room)
-
-pub room_for_out : (t u : Option Blocks) (a b x y : LotView) (p q : PurseView) → Passes t u a b x y p q → length p.pages + (length (held a) + length (held x)) ≤ p.room → length q.pages + length (held y) ≤ q.room
-room_for_out t u a b x y p q passes room = omega (arith, passed_count t u a b x y p q passes, room, passes.purse_room)
-
-pub sound_input : (t u : Option Blocks) (fields : Fields) (w : Work) (a b x y : LotView) (p q : PurseView) → Passes t u a b x y p q → IfTold t (HasPlaces fields w a x p.pages) → IsSound u b q.pages
-sound_input t u fields w a b x y p q passes places = input_sound u fields w b y q.pages (places_on t u fields w a b x y p q passes places)
-
-pub sound_out : (t u : Option Blocks) (fields : Fields) (w : Work) (a b x y : LotView) (p q : PurseView) → Passes t u a b x y p q → IfTold t (HasPlaces fields w a x p.pages) → IsSound u y q.pages
-sound_out t u fields w a b x y p q passes places = out_sound u fields w b y q.pages (places_on t u fields w a b x y p q passes places)
+-- What is left, once it begins to be read.
+pub left_known : (t u : Option Blocks) (fields : Fields) (w : Work) (a b x : LotView) (p : List SegmentView) → u ≡ t → IfTold t (λ m. (rows : List (List ℕ)) → HoldsRows m a rows → HasLeft m b.feed rows)
+    → IfTold t (HoldsWhatFits fields w a x p) → IfTold u (λ m. (rows : Tuples) × LeavesTuples fields m b rows)
+left_known t u fields w a b x p same begun holds = subst (λ o. IfTold o (λ m. (rows : Tuples) × LeavesTuples fields m b rows)) (sym same) (at_one t begun holds)
+  where
+    at_one : (o : Option Blocks) → IfTold o (λ m. (rows : List (List ℕ)) → HoldsRows m a rows → HasLeft m b.feed rows) → IfTold o (HoldsWhatFits fields w a x p) → IfTold o (λ m. (rows : Tuples) × LeavesTuples fields m b rows)
+    at_one None f h = tt
+    at_one (Some m) f h = (h.tuples, record { records = f _ h.holds.records; fitting = h.holds.fitting })
 
 -- The lot that was read holds no more than its room beside the segments for reading.
 pub fits_beside : (t u : Option Blocks) (a b x y : LotView) (p q : PurseView) → Passes t u a b x y p q → length (held a) ≤ a.stored.room → length (held b) ≤ b.stored.room + length (lent b.feed)
 fits_beside t u a b x y p q passes rests =
-    omega (arith, held_count a, held_count b, same_count a b passes.pages, ap (λ (s : PagesView). s.room) passes.pages, rests)
+    omega (arith, segments_of a, segments_of b, same_segments a b (passes.pages 0 a (λ is. omega (arith, is), tt)), passes.rooms 0 a, rests)
 
--- The lot that was read comes to rest.
-pub passes_rested : (t u v : Option Blocks) (a b c x y : LotView) (p q r : PurseView) → Passes t u a b x y p q → length (held a) ≤ a.stored.room
-    → (length (held b) ≤ b.stored.room + length (lent b.feed) → (pages_of c ≡ pages_of b) × (v ≡ u)) → c.feed ≡ stopped b.feed.room b.feed.reach
-    → MovesSegments b c q.pages r.pages → r.room ≡ q.room → BothTold u v (Keeps b c q.pages r.pages) → Passes u v b c y y q r
-passes_rested t u v a b c x y p q r passes rests nothing rest moves room keeps =
-    let same = nothing (fits_beside t u a b x y p q passes rests) in
-    passes_turned u v b c y q r same.1 same.0 (ap (λ (f : FeedView). f.reach) rest) moves room keeps
+-- What both lots keep where the first comes to rest with nothing written, and then the second.
+pub passes_rested : (t u v : Option Blocks) (a b x y : LotView) (p q r : PurseView) → Reads t u p q a b → Writes u v q r x y → Passes t v a b x y p r
+passes_rested t u v a b x y p q r reads writes =
+    passes_join t u v a b b x x y p q r (passes_read t u a b x p q reads) (passes_written u v b x y q r writes)
 
--- What bringing the other lot to rest writes.
-pub writes_rest : (t u : Option Blocks) (a b : LotView) (p q : PurseView) → BothTold t u (Keeps a b p.pages q.pages) → MovesSegments a b p.pages q.pages → q.room ≡ p.room → b.stored.room ≡ a.stored.room → b.feed ≡ stopped a.feed.room a.feed.reach → Writes t u a b p q
-writes_rest t u a b p q keeps moves room own rest = record {
-  keeps = keeps;
-  segments = moves;
-  purse_room = room;
-  lot_room = own;
-  reach = ap (λ (f : FeedView). f.reach) rest;
-}
+-- the records of a lot that kept its contents, on a disk that is as it was
+pub rows_rested : {E : Type 0} (answer : Result Unit E) (t u v : Option Blocks) (x y : LotView) → u ≡ t → OnOk answer (BothTold u v (KeepsContents x y)) → OnOk answer (BothTold t v (KeepsRows x y))
+rows_rested answer t u v x y same keeps =
+    on_ok_map answer (BothTold u v (KeepsContents x y)) (BothTold t v (KeepsRows x y))
+    (λ h. subst (λ o. BothTold o v (KeepsRows x y)) same (told_map u v (KeepsContents x y) (KeepsRows x y) (λ m n k. k.rows) h)) keeps
 
 -- All rows were given.
-pub rows_given : {E : Type 0} (answer : Result Unit E) (s t u v z : Option Blocks) (fields : Fields) (w : Work) (a b c x y o : LotView) (p q : PurseView) → t ≡ s → v ≡ u
-    → IfTold s (HasPlaces fields w a x p.pages) → IfTold s (λ m. (rows : List (List ℕ)) → HoldsRows m a rows → HoldsRows m b rows × HasLeft m b.feed rows)
-    → BothTold s t (StaysBeside a b x x p.pages q.pages) → BothTold t u (GivesAll fields w b x y q.pages) → OnOk answer (BothTold v z (KeepsRows y o))
+pub rows_given : {E : Type 0} (answer : Result Unit E) (s t u z : Option Blocks) (fields : Fields) (w : Work) (a b x y o : LotView) (p q : PurseView) → t ≡ s
+    → IfTold s (HasPlaces fields w a x p.pages) → IfTold s (λ m. (rows : List (List ℕ)) → HoldsRows m a rows → HasLeft m b.feed rows)
+    → Passes s t a b x x p q → BothTold t u (GivesAll fields w b x y q.pages) → OnOk answer (BothTold u z (KeepsRows y o))
     → OnOk answer (BothTold s z (GivesRows fields w a x o))
-rows_given answer s t u v z fields w a b c x y o p q begun rested places left stays gives keeps =
-    on_ok_map answer (BothTold v z (KeepsRows y o)) (BothTold s z (GivesRows fields w a x o))
+rows_given answer s t u z fields w a b x y o p q begun places left passes gives keeps =
+    on_ok_map answer (BothTold u z (KeepsRows y o)) (BothTold s z (GivesRows fields w a x o))
     (λ h. gives_rows fields w s u z a b x y o p q places left
-    (subst (λ k. BothTold s k (StaysBeside a b x x p.pages q.pages)) begun stays)
-    (subst (λ k. BothTold k u (GivesAll fields w b x y q.pages)) begun gives)
-    (subst (λ k. BothTold k z (KeepsRows y o)) rested h))
+    (subst (λ k. Passes s k a b x x p q) begun passes)
+    (subst (λ k. BothTold k u (GivesAll fields w b x y q.pages)) begun gives) h)
     keeps

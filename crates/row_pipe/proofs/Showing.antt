@@ -16,7 +16,9 @@ use Rattle.lot_store.proofs.LotLemmas.{on_ok_map}
 use Rattle.row_pipe.specs.Pipes.{AddsRows, GivesShown, HasPlaceFor, HasPlaces, ShowsTuple}
 use Rattle.row_pipe.specs.Works.{piped}
 use Rattle.row_pipe.specs.declared.work.Work.{Work}
-use Rattle.row_pipe.proofs.Telling.{told_map, told_weaker}
+use Rattle.lot_store.specs.Storage.{Stand}
+use Rattle.lot_store.proofs.Telling.{told_map, told_weaker}
+use Rattle.row_pipe.proofs.Passing.{second_stands}
 
 -- a record of a narrow schema is short
 pub short_record : (fields : Fields) (bytes : List ℕ) → IsRecord fields bytes → widest fields ≤ record_limit → length bytes < 2 ^ 32
@@ -28,7 +30,7 @@ pub place_of_head : (t : Option Blocks) (fields : Fields) (w : Work) (input out 
     → IfTold t (HasPlaces fields w input out p) → IfTold t (HasPlaceFor (map form (piped w (tuple_of fields bytes ∷ []))) out p)
 place_of_head t fields w input out p bytes is places =
     told_weaker t (HasPlaces fields w input out p) (HasPlaceFor (map form (piped w (tuple_of fields bytes ∷ []))) out p)
-    (λ m here. record { size = here.size; stands = here.stands.out; within = here.within (tuple_of fields bytes) is.tuple }) places
+    (λ m here. record { size = here.size; stand = second_stands here.size p input out m here.stand; within = here.within (tuple_of fields bytes) is.tuple }) places
 
 same_bytes : (bytes : List ℕ) (u : Tuple) (shown : Option (List ℕ)) → Some bytes ≡ shown → shown ≡ Some (form u) → bytes ≡ form u
 same_bytes bytes u shown is other = let both : Some bytes ≡ Some (form u) = is ∙ other in cc

@@ -1,5 +1,5 @@
 -- Row after row of a lot is passed on.
-use Rattle.std.proofs.Common.{◌≡◌, ℕ, ◌≤◌, Bool, true, false, All, List, [], ◌∷◌, ◌++◌, map, Result, Option, Some, None, refl, sym, ap, ◌∙◌, subst, arith, append_assoc, append-nil}
+use Rattle.std.proofs.Common.{◌≡◌, ◌≢◌, ℕ, ◌≤◌, Bool, true, false, All, List, [], ◌∷◌, ◌++◌, map, Result, Option, Some, None, refl, sym, ap, ◌∙◌, subst, arith, append_assoc, append-nil}
 use Rattle.std.proofs.lemmas.Grind.{flat_map-append}
 use Rattle.std.proofs.lemmas.List.{map-append}
 use Rattle.std.proofs.lemmas.List.Elements.{All-head, All-tail, filter-append}
@@ -17,17 +17,19 @@ use Rattle.flow_types.specs.Values.{flag_of}
 use Rattle.flow_types.specs.Expressions.{val}
 use Rattle.paged_view.specs.Streams.{Advances, KnowsRows}
 use Rattle.page_feed.specs.Feeds.{HasLeft}
-use Rattle.lot_store.specs.Laws.{IsOther}
-use Rattle.lot_store.specs.LotKeeping.{Keeps, KeepsRows}
+use Rattle.lot_store.specs.LotCalls.{Writes}
+use Rattle.lot_store.specs.LotKeeping.{KeepsRows}
 use Rattle.lot_store.specs.Lots.{HoldsRows, IsLeft, LotView}
 use Rattle.lot_store.specs.Spilling.{HasWriteCause}
-use Rattle.lot_store.proofs.LawLemmas.{other_lot}
-use Rattle.row_pipe.specs.Pipes.{AddsRows, GivesAll, GivesRows, GivesShown, GoesThrough, HasPlaces, IsMidway, LeavesTuples, ShowsTuple, StandBeside, StaysBeside}
+use Rattle.lot_store.specs.Storage.{Preserves, Stand, StaysStanding, pair}
+use Rattle.lot_store.proofs.StorageLaws.{left_stays}
+use Rattle.lot_store.proofs.Telling.{told_same, untold_before}
+use Rattle.row_pipe.specs.Pipes.{AddsRows, GivesAll, GivesRows, GivesShown, GoesThrough, HasPlaces, IsMidway, LeavesTuples, Passes, ShowsTuple}
 use Rattle.row_pipe.specs.Works.{piped}
 use Rattle.row_pipe.specs.declared.work.Work.{Work}
 use Rattle.row_pipe.specs.declared.work.Work.TheVariants as work
 use Rattle.row_pipe.proofs.Adding.{adds_join, adds_none}
-use Rattle.row_pipe.proofs.Telling.{told_same, untold_before}
+use Rattle.row_pipe.proofs.Passing.{pair_written}
 
 -- What is given of rows, one list after the other.
 pub piped-append : (w : Work) (xs ys : Tuples) → piped w (xs ++ ys) ≡ piped w xs ++ piped w ys
@@ -68,7 +70,7 @@ module _ (fields : Fields) (w : Work) where
   known_now None (Some n) a b x y p places left goes = absurd goes
   known_now (Some m) None a b x y p places left goes = tt
   known_now (Some m) (Some n) a b x y p places (rows, left) goes =
-      let mid : IsMidway fields w b x y rows m n = goes places.size places.stands rows left in
+      let mid : IsMidway fields w b x y rows m n = goes places.size places.stand rows left in
       (map form mid.left, mid.behind.records)
 
   -- The row that is shown is one of the schema.
@@ -83,38 +85,39 @@ module _ (fields : Fields) (w : Work) where
   shown_now None (Some n) a b c x y p L places left goes adv = absurd goes
   shown_now (Some m) None a b c x y p L places left goes adv = tt
   shown_now (Some m) (Some n) a b c x y p L places (rows, left) goes adv =
-      let mid : IsMidway fields w b x y rows m n = goes places.size places.stands rows left in
+      let mid : IsMidway fields w b x y rows m n = goes places.size places.stand rows left in
       shown_of n b c.feed.shown mid.left L mid.behind.fitting (adv (map form mid.left) mid.behind.records)
 
   -- One row more was passed on.
-  midway_on : (k m n : Blocks) (a b c x y z : LotView) (p q r : List SegmentView) (rows : Tuples) (size : ℕ) (left : Tuples) → StandBeside size c y q m → Keeps y z q r m n
+  midway_on : (u v : Option Blocks) (k m n : Blocks) (a b c x y z : LotView) (q r : PurseView) (rows : Tuples) (size : ℕ) (left : Tuples) → Stand size q.pages (c ∷ y ∷ []) m
+      → Preserves (pair u q c y) (pair v r c z) (1 ∷ []) (1 ∷ []) true → StaysStanding (pair u q c y) (pair v r c z) (1 ∷ []) true m n
       → (done : Tuples) → rows ≡ done ++ left → All (IsTupleOf fields) left → AddsRows x y (map form (piped w done)) k m
       → Advances (map form left) true c.feed.shown (HasLeft m c.feed) → GivesShown fields w c y z m n → IsMidway fields w c x z rows k n
-  midway_on k m n a b c x y z p q r rows size [] both keeps done all fit adds adv gives = absurd adv
-  midway_on k m n a b c x y z p q r rows size (t ∷ rest) both keeps done all fit adds adv gives =
-      let other : IsOther size z.stored.run c m n = other_lot m n y.stored.run z.stored.run size c keeps.others both.input.spilled both.input.reads both.apart in record {
-        done = done ++ t ∷ [];
-        left = rest;
-        all = all ∙ sym (append_assoc done (t ∷ []) rest);
-        behind = record {
-          records = other.left (map form rest) adv.1;
-          fitting = All-tail (IsTupleOf fields) t rest fit;
-        };
-        adds = subst (λ xs. AddsRows x z xs k n) (sym (given_more w done t))
-            (adds_join x y z (map form (piped w done)) (map form (piped w (t ∷ []))) k m n adds (gives t (All-head (IsTupleOf fields) t rest fit) adv.0));
-      }
+  midway_on u v k m n a b c x y z q r rows size [] both writes stays done all fit adds adv gives = absurd adv
+  midway_on u v k m n a b c x y z q r rows size (t ∷ rest) both writes stays done all fit adds adv gives = record {
+    done = done ++ t ∷ [];
+    left = rest;
+    all = all ∙ sym (append_assoc done (t ∷ []) rest);
+    behind = record {
+      records = left_stays (pair u q c y) (pair v r c z) (1 ∷ []) (1 ∷ []) true m n size 0 c (map form rest) writes stays both (omega arith) (λ is. omega (arith, is), tt) (λ is. omega (arith, is), tt) adv.1;
+      fitting = All-tail (IsTupleOf fields) t rest fit;
+    };
+    adds = subst (λ xs. AddsRows x z xs k n) (sym (given_more w done t))
+        (adds_join x y z (map form (piped w done)) (map form (piped w (t ∷ []))) k m n adds (gives t (All-head (IsTupleOf fields) t rest fit) adv.0));
+  }
 
   pub goes_on : (t u v : Option Blocks) (a b c x y z : LotView) (p q r : PurseView) → BothTold t u (GoesThrough fields w a b x y p.pages)
-      → BothTold t u (StaysBeside a c x y p.pages q.pages) → ((rows : List (List ℕ)) → IsLeft b u rows → Advances rows true c.feed.shown (IsLeft c u))
-      → BothTold u v (Keeps y z q.pages r.pages) → BothTold u v (GivesShown fields w c y z) → BothTold t v (GoesThrough fields w a c x z p.pages)
-  goes_on None None None a b c x y z p q r goes stays adv keeps gives = tt
-  goes_on None None (Some n) a b c x y z p q r goes stays adv keeps gives = keeps
-  goes_on None (Some m) v a b c x y z p q r goes stays adv keeps gives = absurd goes
-  goes_on (Some k) None v a b c x y z p q r goes stays adv keeps gives = absurd goes
-  goes_on (Some k) (Some m) None a b c x y z p q r goes stays adv keeps gives = keeps
-  goes_on (Some k) (Some m) (Some n) a b c x y z p q r goes stays adv keeps gives = λ size both rows left.
+      → Passes t u a c x y p q → ((rows : List (List ℕ)) → IsLeft b u rows → Advances rows true c.feed.shown (IsLeft c u))
+      → Writes u v q r y z → BothTold u v (GivesShown fields w c y z) → BothTold t v (GoesThrough fields w a c x z p.pages)
+  goes_on None None None a b c x y z p q r goes passes adv writes gives = tt
+  goes_on None None (Some n) a b c x y z p q r goes passes adv writes gives = gives
+  goes_on None (Some m) v a b c x y z p q r goes passes adv writes gives = absurd goes
+  goes_on (Some k) None v a b c x y z p q r goes passes adv writes gives = absurd goes
+  goes_on (Some k) (Some m) None a b c x y z p q r goes passes adv writes gives = gives
+  goes_on (Some k) (Some m) (Some n) a b c x y z p q r goes passes adv writes gives = λ size both rows left.
       let mid : IsMidway fields w b x y rows k m = goes size both rows left in
-      midway_on k m n a b c x y z p.pages q.pages r.pages rows size mid.left (stays size both) keeps mid.done mid.all mid.behind.fitting mid.adds (adv (map form mid.left) mid.behind.records) gives
+      let pair_writes = pair_written (Some m) (Some n) c y z q r writes in
+      midway_on (Some m) (Some n) k m n a b c x y z q r rows size mid.left (passes.told.stand size both) pair_writes pair_writes.told mid.done mid.all mid.behind.fitting mid.adds (adv (map form mid.left) mid.behind.records) gives
 
   -- No row is left.
   all_done : (k m : Blocks) (x y : LotView) (rows done left : Tuples) (shown : Option (List ℕ)) (L : List (List ℕ) → Type 0) → rows ≡ done ++ left → AddsRows x y (map form (piped w done)) k m
@@ -133,17 +136,17 @@ module _ (fields : Fields) (w : Work) where
 
   -- From a lot at rest to both lots at rest.
   pub gives_rows : (t u v : Option Blocks) (a b x y z : LotView) (p q : PurseView) → IfTold t (HasPlaces fields w a x p.pages)
-      → IfTold t (λ m. (rows : List (List ℕ)) → HoldsRows m a rows → HoldsRows m b rows × HasLeft m b.feed rows)
-      → BothTold t t (StaysBeside a b x x p.pages q.pages) → BothTold t u (GivesAll fields w b x y q.pages) → BothTold u v (KeepsRows y z)
+      → IfTold t (λ m. (rows : List (List ℕ)) → HoldsRows m a rows → HasLeft m b.feed rows)
+      → Passes t t a b x x p q → BothTold t u (GivesAll fields w b x y q.pages) → BothTold u v (KeepsRows y z)
       → BothTold t v (GivesRows fields w a x z)
-  gives_rows None None None a b x y z p q places begun stays gives keeps = tt
-  gives_rows None None (Some n) a b x y z p q places begun stays gives keeps = keeps
-  gives_rows None (Some m) v a b x y z p q places begun stays gives keeps = absurd gives
-  gives_rows (Some k) None v a b x y z p q places begun stays gives keeps = absurd gives
-  gives_rows (Some k) (Some m) None a b x y z p q places begun stays gives keeps = keeps
-  gives_rows (Some k) (Some m) (Some n) a b x y z p q places begun stays gives keeps = λ rows others holds had.
+  gives_rows None None None a b x y z p q places begun passes gives keeps = tt
+  gives_rows None None (Some n) a b x y z p q places begun passes gives keeps = keeps
+  gives_rows None (Some m) v a b x y z p q places begun passes gives keeps = absurd gives
+  gives_rows (Some k) None v a b x y z p q places begun passes gives keeps = absurd gives
+  gives_rows (Some k) (Some m) None a b x y z p q places begun passes gives keeps = keeps
+  gives_rows (Some k) (Some m) (Some n) a b x y z p q places begun passes gives keeps = λ rows others holds had.
       keeps (others ++ map form (piped w rows))
-      (gives places.size (stays places.size places.stands) rows (record { records = (begun (map form rows) holds.records).1; fitting = holds.fitting }) others had)
+      (gives places.size (passes.told.stand places.size places.stand) rows (record { records = begun (map form rows) holds.records; fitting = holds.fitting }) others had)
 
 -- what an advance says, of a disk that is as it was
 pub advances_at : (t u : Option Blocks) (a b : LotView) (more is : Bool) → u ≡ t → more ≡ is → ((rows : List (List ℕ)) → IsLeft a t rows → Advances rows more b.feed.shown (IsLeft b u))

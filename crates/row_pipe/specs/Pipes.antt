@@ -1,16 +1,18 @@
 -- A lot whose rows go to another: what is known of both, and what a call keeps. The rules are this project's own.
-use Rattle.std.specs.Prelude.{◌≡◌, ℕ, ◌+◌, ◌-◌, ◌/◌, ◌<◌, ◌≤◌, All, List, [], ◌∷◌, ◌++◌, length, map, Option, Some}
-use Rattle.segment_core.specs.Segments.{PurseView, SegmentView, segment_sum}
-use Rattle.flow_outside.specs.Blocks.{Blocks, BothTold}
+use Rattle.std.specs.Prelude.{◌≡◌, ℕ, ◌+◌, ◌-◌, ◌/◌, ◌<◌, ◌≤◌, true, All, List, [], ◌∷◌, ◌++◌, length, map, Option, Some, Result, OnOk, IsErrOf}
+use Rattle.segment_core.specs.Segments.{PurseView, SegmentView}
+use Rattle.flow_outside.specs.Blocks.{Blocks}
+use Rattle.flow_outside.specs.Causes.{HasStreamCause}
+use Rattle.flow_outside.specs.declared.failure.StreamFault.{StreamFault}
+use Rattle.flow_outside.specs.declared.failure.StreamFault.TheVariants as fault
 use Rattle.flow_types.specs.Tuples.{Tuple}
 use Rattle.flow_types.specs.Types.{Fields}
 use Rattle.flow_types.specs.Records.{IsTupleOf, form}
 use Rattle.flow_model.specs.Env.{Tuples}
-use Rattle.page_feed.specs.Feeds.{HasLeft, lent}
-use Rattle.lot_store.specs.Laws.{AreApart}
-use Rattle.lot_store.specs.LotKeeping.{Keeps, MovesSegments}
-use Rattle.lot_store.specs.Spilling.{ForeignBlocksUnchanged, NoOrphanBlocks}
-use Rattle.lot_store.specs.Lots.{HoldsRows, IsSound, LotView, StandsWith, held, pages_of}
+use Rattle.page_feed.specs.Feeds.{HasLeft, block_of}
+use Rattle.lot_store.specs.LotCalls.{IsSupplied}
+use Rattle.lot_store.specs.Lots.{HoldsRows, LotView, held}
+use Rattle.lot_store.specs.Storage.{IsReady, Preserves, Stand, alone, held_count, pair}
 use Rattle.row_pipe.specs.Works.{piped}
 use Rattle.row_pipe.specs.declared.work.Work.{Work}
 
@@ -23,12 +25,6 @@ pub record HoldsTuples (fields : Fields) (blocks : Blocks) (lot : LotView) (tupl
 pub record LeavesTuples (fields : Fields) (blocks : Blocks) (lot : LotView) (tuples : Tuples) : Type 0 where
   pub records : HasLeft blocks lot.feed (map form tuples)
   pub fitting : All (IsTupleOf fields) tuples
-
--- Two lots stand on their disk beside one purse, all with segments of `size` bytes, and no block is one of both.
-pub record StandBeside (size : ℕ) (one other : LotView) (purse : List SegmentView) (blocks : Blocks) : Type 0 where
-  pub input : StandsWith size one purse blocks
-  pub out : StandsWith size other purse blocks
-  pub apart : AreApart blocks other.stored.run one.stored.run
 
 -- These records stand behind those that the lot had.
 abbrev pub AddsRows : (before after : LotView) (rows : List (List ℕ)) (old new : Blocks) → Type 0
@@ -46,7 +42,7 @@ AreWithin size reach records = All (λ (record_bytes : List ℕ). most_touched s
 -- The lot stands beside its purse, and each of these records touches no more pages than the lot's reach.
 pub record HasPlaceFor (records : List (List ℕ)) (lot : LotView) (purse : List SegmentView) (blocks : Blocks) : Type 0 where
   pub size : ℕ
-  pub stands : StandsWith size lot purse blocks
+  pub stand : Stand size purse (lot ∷ []) blocks
   pub within : AreWithin size lot.feed.reach records
 
 -- Whatever row of the schema stands there, the rows that are given of it touch at most so many pages each.
@@ -56,50 +52,43 @@ GivesWithin fields work size reach = (t : Tuple) → IsTupleOf fields t → AreW
 -- Both lots stand beside the purse, and there is a place for what is given of any row of the schema.
 pub record HasPlaces (fields : Fields) (work : Work) (input out : LotView) (purse : List SegmentView) (blocks : Blocks) : Type 0 where
   pub size : ℕ
-  pub stands : StandBeside size input out purse blocks
+  pub stand : Stand size purse (input ∷ out ∷ []) blocks
   pub within : GivesWithin fields work size out.feed.reach
 
 -- A record may be added to a lot beside this purse.
 pub record CanAdd (told : Option Blocks) (lot : LotView) (purse : PurseView) : Type 0 where
-  pub supply : 0 < length purse.pages + (length (lent lot.feed) + length (pages_of lot).open_page)
-  pub room : length purse.pages + length (held lot) ≤ purse.room
-  pub sound : IsSound told lot purse.pages
+  pub supply : IsSupplied purse lot
+  pub ready : IsReady (alone told purse lot)
 
--- What a call that adds records to a lot keeps, whatever it answers: no other block changed, every segment is in the lot
--- or the purse, and both may hold as many as before.
-pub record Writes (told now : Option Blocks) (before after : LotView) (purse rest : PurseView) : Type 0 where
-  pub keeps : BothTold told now (Keeps before after purse.pages rest.pages)
-  pub segments : MovesSegments before after purse.pages rest.pages
-  pub purse_room : rest.room ≡ purse.room
-  pub lot_room : after.stored.room ≡ before.stored.room
-  pub reach : after.feed.reach ≡ before.feed.reach
+-- A lot may be read from its first row on while another is written: it rests, the purse has more segments than reading takes,
+-- and room for those of both.
+pub record MayPass (input out : LotView) (purse : PurseView) : Type 0 where
+  pub supply : input.feed.reach < length purse.pages
+  pub rests : length (held input) ≤ input.stored.room
+  pub room : length purse.pages + held_count (input ∷ out ∷ []) ≤ purse.room
 
--- Both lots stand as they stood, beside what the purse is now.
-abbrev pub StaysBeside : (input input_now out out_now : LotView) (purse rest : List SegmentView) (old new : Blocks) → Type 0
-StaysBeside input input_now out out_now purse rest old new =
-    (size : ℕ) → StandBeside size input out purse old → StandBeside size input_now out_now rest new
+-- The lot that is read holds the rows of some tuples of the schema, and there is a place for what is given of them.
+pub record HoldsWhatFits (fields : Fields) (work : Work) (input out : LotView) (purse : List SegmentView) (blocks : Blocks) : Type 0 where
+  pub places : HasPlaces fields work input out purse blocks
+  pub tuples : Tuples
+  pub holds : HoldsTuples fields blocks input tuples
 
--- The records of a lot that stands so are what they were.
-abbrev pub StaysWhole : (input input_now out : LotView) (purse : List SegmentView) (old new : Blocks) → Type 0
-StaysWhole input input_now out purse old new =
-    (size : ℕ) → StandBeside size input out purse old
-    → (rows : List (List ℕ)) → HoldsRows old input rows → HoldsRows new input_now rows
+-- What a call keeps that reads one lot and writes another, whatever it answers: `Preserves` of both with their purse and their
+-- disk, of which the second is written.
+abbrev pub Passes : (told now : Option Blocks) (input input_now out out_now : LotView) (purse rest : PurseView) → Type 0
+Passes told now input input_now out out_now purse rest =
+    Preserves (pair told purse input out) (pair now rest input_now out_now) (0 ∷ 1 ∷ []) (1 ∷ []) true
 
--- What a call keeps that reads one lot and writes another, whatever it answers: both stand beside the purse, no block
--- of anybody else changed, and none became live that isn't the written lot's. The lot that is read has its pages and
--- records, and every segment is in one of the lots or in the purse.
-pub record Passes (told now : Option Blocks) (input input_now out out_now : LotView) (purse rest : PurseView) : Type 0 where
-  pub beside : BothTold told now (StaysBeside input input_now out out_now purse.pages rest.pages)
-  pub whole : BothTold told now (StaysWhole input input_now out purse.pages)
-  pub others : BothTold told now (ForeignBlocksUnchanged out.stored.run out_now.stored.run)
-  pub owns : BothTold told now (NoOrphanBlocks out.stored.run out_now.stored.run)
-  pub pages : pages_of input_now ≡ pages_of input
-  pub segments : (h : ℕ → ℕ → ℕ) → segment_sum h rest.pages + (segment_sum h (held input_now) + segment_sum h (held out_now))
-      ≡ segment_sum h purse.pages + (segment_sum h (held input) + segment_sum h (held out))
-  pub purse_room : rest.room ≡ purse.room
-  pub out_room : out_now.stored.room ≡ out.stored.room
-  pub input_reach : input_now.feed.reach ≡ input.feed.reach
-  pub out_reach : out_now.feed.reach ≡ out.feed.reach
+-- Why a pass ended early: as any stream's reading, and `Damaged` has the block that was read last.
+pub record HasPassCause (before now : ℕ) (told : Option Blocks) (input : LotView) (answer : Result Unit StreamFault) : Type 0 where
+  pub cause : HasStreamCause before now told answer
+  pub damaged : (block : ℕ) → IsErrOf answer (fault.Damaged block) → block ≡ block_of input.feed.run
+
+-- Both lots rest where all went well. So does the one that was read after any answer but `Damaged`, which leaves it at the block
+-- that was read last.
+pub record RestsAfter (input out : LotView) (answer : Result Unit StreamFault) : Type 0 where
+  pub read : ((block : ℕ) → IsErrOf answer (fault.Damaged block) → ⊥) → length (held input) ≤ input.stored.room
+  pub written : OnOk answer (length (held out) ≤ out.stored.room)
 
 -- The lot shows the record of a tuple of the schema.
 abbrev pub ShowsTuple : (fields : Fields) (lot : LotView) → Type 0
@@ -113,7 +102,7 @@ GivesShown fields work input out out_now old new =
 -- The rows that are given of all that was left to be read stand behind those that the lot had.
 abbrev pub GivesAll : (fields : Fields) (work : Work) (input out out_now : LotView) (purse : List SegmentView) (old new : Blocks) → Type 0
 GivesAll fields work input out out_now purse old new =
-    (size : ℕ) → StandBeside size input out purse old
+    (size : ℕ) → Stand size purse (input ∷ out ∷ []) old
     → (rows : Tuples) → LeavesTuples fields old input rows → AddsRows out out_now (map form (piped work rows)) old new
 
 -- Of the tuples that were left, the first were passed on, and the others are left.
@@ -127,7 +116,7 @@ pub record IsMidway (fields : Fields) (work : Work) (input_now out out_now : Lot
 -- So it is with whatever was left.
 abbrev pub GoesThrough : (fields : Fields) (work : Work) (input input_now out out_now : LotView) (purse : List SegmentView) (old new : Blocks) → Type 0
 GoesThrough fields work input input_now out out_now purse old new =
-    (size : ℕ) → StandBeside size input out purse old
+    (size : ℕ) → Stand size purse (input ∷ out ∷ []) old
     → (rows : Tuples) → LeavesTuples fields old input rows → IsMidway fields work input_now out out_now rows old new
 
 -- The rows that are given of all rows of a lot stand behind those that the other lot had.

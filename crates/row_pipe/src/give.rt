@@ -7,7 +7,8 @@ ghost use Rattle.flow_types.specs.Types.{widest};
 ghost use Rattle.flow_types.specs.Records.{IsRecord, form, tuple_of};
 ghost use Rattle.flow_model.specs.Rows.{branch_rows, columns_of};
 ghost use Rattle.lot_store.specs.Spilling.{HasWriteCause};
-ghost use Rattle.row_pipe.specs.Pipes.{AddsRows, CanAdd, HasPlaceFor, Writes};
+ghost use Rattle.lot_store.specs.LotCalls.{Writes};
+ghost use Rattle.row_pipe.specs.Pipes.{AddsRows, CanAdd, HasPlaceFor};
 ghost use Rattle.row_pipe.specs.Works.{are_columns_over, is_branch_over, is_work_over, piped};
 
 use crate::work::Work;
@@ -41,7 +42,7 @@ impl Work {
         requires place { IfTold (D.told disk.old)
             (HasPlaceFor (map form (piped self.now (tuple_of schema.now (X.seen row.now) ∷ []))) out.old purse.old.pages) }
         ensures cause { HasWriteCause (D.fault_count disk.old) (D.fault_count disk.new) result }
-        ensures writes { Writes (D.told disk.old) (D.told disk.new) out.old out.new purse.old purse.new }
+        ensures writes { Writes (D.told disk.old) (D.told disk.new) purse.old purse.new out.old out.new }
         ensures can { OnOk result (CanAdd (D.told disk.new) out.new purse.new) }
         ensures adds { OnOk result (BothTold (D.told disk.old) (D.told disk.new)
             (AddsRows out.old out.new (map form (piped self.now (tuple_of schema.now (X.seen row.now) ∷ []))))) }
@@ -77,7 +78,7 @@ fn add_branches<X: Span, D: Spill>(
     requires place { IfTold (D.told disk.old)
         (HasPlaceFor (map form (branch_rows branches.now (tuple_of schema.now (X.seen row.now)))) out.old purse.old.pages) }
     ensures cause { HasWriteCause (D.fault_count disk.old) (D.fault_count disk.new) result }
-    ensures writes { Writes (D.told disk.old) (D.told disk.new) out.old out.new purse.old purse.new }
+    ensures writes { Writes (D.told disk.old) (D.told disk.new) purse.old purse.new out.old out.new }
     ensures can { OnOk result (CanAdd (D.told disk.new) out.new purse.new) }
     ensures adds { OnOk result (BothTold (D.told disk.old) (D.told disk.new)
         (AddsRows out.old out.new (map form (branch_rows branches.now (tuple_of schema.now (X.seen row.now)))))) }
@@ -107,7 +108,7 @@ fn add_branch<X: Span, D: Spill>(
     requires place { IfTold (D.told disk.old)
         (HasPlaceFor (map form (branch_rows (branch.now ∷ []) (tuple_of schema.now (X.seen row.now)))) out.old purse.old.pages) }
     ensures cause { HasWriteCause (D.fault_count disk.old) (D.fault_count disk.new) result }
-    ensures writes { Writes (D.told disk.old) (D.told disk.new) out.old out.new purse.old purse.new }
+    ensures writes { Writes (D.told disk.old) (D.told disk.new) purse.old purse.new out.old out.new }
     ensures can { OnOk result (CanAdd (D.told disk.new) out.new purse.new) }
     ensures adds { OnOk result (BothTold (D.told disk.old) (D.told disk.new)
         (AddsRows out.old out.new (map form (branch_rows (branch.now ∷ []) (tuple_of schema.now (X.seen row.now)))))) }
@@ -135,7 +136,7 @@ fn add_columns<X: Span, D: Spill>(
     requires place { IfTold (D.told disk.old)
         (HasPlaceFor (form (columns_of columns.now (tuple_of schema.now (X.seen row.now))) ∷ []) out.old purse.old.pages) }
     ensures cause { HasWriteCause (D.fault_count disk.old) (D.fault_count disk.new) result }
-    ensures writes { Writes (D.told disk.old) (D.told disk.new) out.old out.new purse.old purse.new }
+    ensures writes { Writes (D.told disk.old) (D.told disk.new) purse.old purse.new out.old out.new }
     ensures can { OnOk result (CanAdd (D.told disk.new) out.new purse.new) }
     ensures adds { OnOk result (BothTold (D.told disk.old) (D.told disk.new)
         (AddsRows out.old out.new (form (columns_of columns.now (tuple_of schema.now (X.seen row.now))) ∷ []))) }
@@ -155,7 +156,7 @@ fn add<X: Span, D: Spill>(
     requires can { CanAdd (D.told disk.old) out.old purse.old }
     requires place { IfTold (D.told disk.old) (HasPlaceFor (X.seen row.now ∷ []) out.old purse.old.pages) }
     ensures cause { HasWriteCause (D.fault_count disk.old) (D.fault_count disk.new) result }
-    ensures writes { Writes (D.told disk.old) (D.told disk.new) out.old out.new purse.old purse.new }
+    ensures writes { Writes (D.told disk.old) (D.told disk.new) purse.old purse.new out.old out.new }
     ensures can { OnOk result (CanAdd (D.told disk.new) out.new purse.new) }
     ensures adds { OnOk result (BothTold (D.told disk.old) (D.told disk.new) (AddsRows out.old out.new (X.seen row.now ∷ []))) }
 {

@@ -1,12 +1,17 @@
-ghost use Rattle.std.specs.Prelude.{◌≡◌, ℕ, ◌+◌, ◌<◌, ◌≤◌, IfSome, IsErrOf, OnOk, length};
+ghost use Rattle.std.specs.Prelude.{◌≡◌, ℕ, ◌+◌, ◌<◌, ◌≤◌, true, [], ◌∷◌, IfSome, IsErrOf, OnOk, length};
 ghost use Rattle.flow_outside.specs.Blocks.{BothTold};
 ghost use Rattle.flow_outside.specs.Causes.{HasStreamCause};
 ghost use Rattle.flow_outside.specs.Told.{IfTold};
 ghost use Rattle.flow_types.specs.Records.{IsRecord};
 ghost use Rattle.flow_model.specs.Env.{Tuples};
+ghost use Rattle.lot_store.specs.LotCalls.{Writes};
+ghost use Rattle.lot_store.specs.LotKeeping.{KeepsRows};
 ghost use Rattle.lot_store.specs.Lots.{IsRewound, held};
-ghost use Rattle.page_feed.specs.Feeds.{block_of};
-ghost use Rattle.row_pipe.specs.Pipes.{CanAdd, GivesAll, GivesRows, GivesShown, HasPlaces, HoldsTuples, LeavesTuples, Passes, ShowsTuple, Writes};
+ghost use Rattle.lot_store.specs.Spilling.{HasWriteCause};
+ghost use Rattle.lot_store.specs.Storage.{IsReady, pair};
+ghost use Rattle.page_feed.specs.Feeds.{block_of, lent};
+ghost use Rattle.row_pipe.specs.Pipes.{CanAdd, GivesAll, GivesRows, GivesShown, HasPassCause, HasPlaces, HoldsWhatFits, LeavesTuples, MayPass, Passes, RestsAfter, ShowsTuple};
+ghost use Rattle.spool.specs.Ios.{HasSameParts};
 
 use crate::row_pipe::RowPipe;
 use expr_core::scratch::Scratch;
@@ -19,11 +24,12 @@ use segment_core::Purse;
 use spool::io::Io;
 
 /// Adds the rows that are given of a lot's rows behind those of another. For a union it is called once for each
-/// input. Both lots are at rest afterwards, the one that is read whatever the answer.
+/// input. Both lots are at rest afterwards, the one that is read whatever the answer, but for `Damaged`.
 ///
 /// `Spill` comes only where the disk's count of faults rose in this call, `Damaged` only over a disk that doesn't
-/// tell: where a page isn't the one that was put, or a record isn't that of a row. What the other lot stands for is
-/// then open. Each row is read once where it lies, and each record that is given is copied once; no memory is taken.
+/// tell: where a page isn't the one that was put, or a record isn't that of a row; it has the block that was read
+/// last. What the other lot stands for is then open. Each row is read once where it lies, and each record that is
+/// given is copied once; no memory is taken.
 pub fn pipe<D: Spill>(
     p: &RowPipe,
     input: &mut Lot,
@@ -31,31 +37,76 @@ pub fn pipe<D: Spill>(
     s: &mut Scratch,
     io: &mut Io<'_, D>,
 ) -> Result<(), StreamFault>
-    requires supply { input.old.feed.reach < length io.old.purse.now.pages }
-    requires room { length io.old.purse.now.pages + (length (held input.old) + length (held out.old)) ≤ io.old.purse.now.room }
-    requires rests { length (held input.old) ≤ input.old.stored.room }
-    requires places { IfTold (D.told io.old.disk.now) (HasPlaces p.now.takes p.now.work input.old out.old io.old.purse.now.pages) }
-    requires holds { IfTold (D.told io.old.disk.now) (λ blocks. (rows : Tuples) × HoldsTuples p.now.takes blocks input.old rows) }
-    ensures cause { HasStreamCause (D.fault_count io.old.disk.now) (D.fault_count io.new.disk.now) (D.told io.old.disk.now) result }
+    requires may { MayPass input.old out.old io.old.purse.now }
+    requires holds { IfTold (D.told io.old.disk.now)
+        (HoldsWhatFits p.now.takes p.now.work input.old out.old io.old.purse.now.pages) }
     ensures rows { OnOk result (BothTold (D.told io.old.disk.now) (D.told io.new.disk.now)
         (GivesRows p.now.takes p.now.work input.old out.old out.new)) }
-    ensures passes { Passes (D.told io.old.disk.now) (D.told io.new.disk.now) input.old input.new out.old out.new io.old.purse.now io.new.purse.now }
-    ensures purse { io.new.purse.ghost_name ≡ io.old.purse.ghost_name }
-    ensures disk { io.new.disk.ghost_name ≡ io.old.disk.ghost_name }
+    ensures preserves { Passes (D.told io.old.disk.now) (D.told io.new.disk.now)
+        input.old input.new out.old out.new io.old.purse.now io.new.purse.now }
+    ensures cause { HasPassCause (D.fault_count io.old.disk.now) (D.fault_count io.new.disk.now)
+        (D.told io.old.disk.now) input.new result }
+    ensures rests { RestsAfter input.new out.new result }
+    ensures lent { HasSameParts io.old io.new }
+{
+    pass_and_rest(p, input, out, s, io.purse, io.disk)
+}
+
+/// The same, of a purse and a disk.
+fn pass_and_rest<D: Spill>(
+    p: &RowPipe,
+    input: &mut Lot,
+    out: &mut Lot,
+    s: &mut Scratch,
+    purse: &mut Purse,
+    disk: &mut D,
+) -> Result<(), StreamFault>
+    requires may { MayPass input.old out.old purse.old }
+    requires holds { IfTold (D.told disk.old)
+        (HoldsWhatFits p.now.takes p.now.work input.old out.old purse.old.pages) }
+    ensures rows { OnOk result (BothTold (D.told disk.old) (D.told disk.new)
+        (GivesRows p.now.takes p.now.work input.old out.old out.new)) }
+    ensures preserves { Passes (D.told disk.old) (D.told disk.new)
+        input.old input.new out.old out.new purse.old purse.new }
+    ensures cause { HasStreamCause (D.fault_count disk.old) (D.fault_count disk.new) (D.told disk.old) result }
+    ensures damaged { (block : ℕ) → IsErrOf result (StreamFault.Damaged block) → block ≡ block_of input.new.feed.run }
+    ensures read { ((block : ℕ) → IsErrOf result (StreamFault.Damaged block) → ⊥) →
+        length (held input.new) ≤ input.new.stored.room }
+    ensures written { OnOk result (length (held out.new) ≤ out.new.stored.room) }
+{
+    match input.rewind(purse, disk) {
+        Ok(()) => {
+            match pass_all(p, input, out, s, purse, disk) {
+                Ok(()) => rest_both(input, out, purse, disk),
+                Err(StreamFault::Spill) => match input.rest(purse, disk) {
+                    Ok(()) => Err(StreamFault::Spill),
+                    Err(fault) => Err(fault),
+                },
+                Err(StreamFault::Damaged { block }) => Err(StreamFault::Damaged { block }),
+            }
+        }
+        Err(fault) => Err(fault),
+    }
+}
+
+/// Brings both lots to rest, the one that was read first.
+fn rest_both<D: Spill>(
+    input: &mut Lot,
+    out: &mut Lot,
+    purse: &mut Purse,
+    disk: &mut D,
+) -> Result<(), StreamFault>
+    requires fits { length (held input.old) ≤ input.old.stored.room + length (lent input.old.feed) }
+    requires ready { IsReady (pair (D.told disk.old) purse.old input.old out.old) }
+    ensures cause { HasWriteCause (D.fault_count disk.old) (D.fault_count disk.new) result }
+    ensures preserves { Passes (D.told disk.old) (D.told disk.new)
+        input.old input.new out.old out.new purse.old purse.new }
+    ensures rows { OnOk result (BothTold (D.told disk.old) (D.told disk.new) (KeepsRows out.old out.new)) }
     ensures read { length (held input.new) ≤ input.new.stored.room }
     ensures written { OnOk result (length (held out.new) ≤ out.new.stored.room) }
 {
-    match input.rewind(io.purse, io.disk) {
-        Ok(()) => {
-            let answer = pass_all(p, input, out, s, io.purse, io.disk);
-            match input.rest(io.purse, io.disk) {
-                Ok(()) => match answer {
-                    Ok(()) => out.rest(io.purse, io.disk),
-                    Err(fault) => Err(fault),
-                },
-                Err(fault) => Err(fault),
-            }
-        }
+    match input.rest(purse, disk) {
+        Ok(()) => out.rest(purse, disk),
         Err(fault) => Err(fault),
     }
 }
@@ -80,7 +131,7 @@ fn pass_all<D: Spill>(
         (GivesAll p.now.takes p.now.work input.old out.old out.new purse.old.pages)) }
 {
     'rows: loop {
-        match input.advance(disk) {
+        match input.read_next(disk) {
             Ok(true) => match give_head(p, input, out, s, purse, disk) {
                 Ok(()) => (),
                 Err(fault) => return Err(fault),
@@ -106,7 +157,7 @@ fn give_head<D: Spill>(
     ensures cause { HasStreamCause (D.fault_count disk.old) (D.fault_count disk.new) (D.told disk.old) result }
     ensures damaged { (block : ℕ) → IsErrOf result (StreamFault.Damaged block) → block ≡ block_of input.now.feed.run }
     ensures whole { OnOk result (IfSome input.now.feed.shown (IsRecord p.now.takes)) }
-    ensures writes { Writes (D.told disk.old) (D.told disk.new) out.old out.new purse.old purse.new }
+    ensures writes { Writes (D.told disk.old) (D.told disk.new) purse.old purse.new out.old out.new }
     ensures can { OnOk result (CanAdd (D.told disk.new) out.new purse.new) }
     ensures adds { OnOk result (BothTold (D.told disk.old) (D.told disk.new)
         (GivesShown p.now.takes p.now.work input.now out.old out.new)) }

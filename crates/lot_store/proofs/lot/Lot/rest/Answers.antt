@@ -1,16 +1,19 @@
-use Rattle.std.proofs.Common.{ap, ◌∙◌}
-use Rattle.lot_store.specs.Lots.{LotView}
-use Rattle.lot_store.proofs.RestLemmas.{back_fits, lot_keeps, lot_of, sound_in}
+use Rattle.std.proofs.Common.{ap}
+use Rattle.page_feed.specs.Feeds.{FeedView}
+use Rattle.lot_store.proofs.StorageLot.{contents_kept, reads_kept, writes_one}
 use Rattle.lot_store.proofs.lot.Lot.rest.Goals as goal
 
-pub rest-requires-clause-room : goal.rest-requires-clause-room
-rest-requires-clause-room g c =
-    back_fits c.args.self.now c.self.inside.stored c.args.purse.now.pages c.stop.new.purse.pages c.args.purse.now.room c.stop.new.purse.room (ap (λ (v : LotView). v.stored) c.self.view_is ∙ c.stop.ensures.stored) c.stop.ensures.segments c.stop.ensures.room c.requires.room
+pub returns-clause-preserves : goal.returns-clause-preserves
+returns-clause-preserves g c =
+    writes_one _ _ c.args.self.now c.come_to_rest.new.self c.args.purse.now c.come_to_rest.new.purse c.come_to_rest.ensures.keeps c.come_to_rest.ensures.segments c.come_to_rest.ensures.room c.come_to_rest.ensures.own (ap (λ (f : FeedView). f.reach) c.come_to_rest.ensures.rest)
 
-pub rest-requires-clause-sound : goal.rest-requires-clause-sound
-rest-requires-clause-sound g c =
-    sound_in _ c.args.self.now c.self.inside.stored c.args.purse.now.pages c.stop.new.purse.pages (ap (λ (v : LotView). v.stored) c.self.view_is ∙ c.stop.ensures.stored) c.stop.ensures.segments c.requires.sound
+pub returns-clause-same : goal.returns-clause-same
+returns-clause-same g c =
+    contents_kept c.come_to_rest.result _ _ c.args.self.now c.come_to_rest.new.self c.come_to_rest.ensures.same c.come_to_rest.ensures.rows
 
-pub returns-clause-keeps : goal.returns-clause-keeps
-returns-clause-keeps g c =
-    lot_keeps _ _ c.args.self.now (lot_of c.rest.new.self c.self.inside.feed) c.self.inside.stored c.args.purse.now.pages c.stop.new.purse.pages c.rest.new.purse.pages _ _ (ap (λ (v : LotView). v.stored) c.self.view_is ∙ c.stop.ensures.stored) (ap (λ (v : LotView). v.feed) c.self.view_is ∙ c.stop.ensures.feed) c.stop.ensures.segments c.rest.ensures.keeps
+pub returns-clause-nothing : goal.returns-clause-nothing
+returns-clause-nothing g c = λ few.
+    let stays = c.come_to_rest.ensures.nothing few in (
+      reads_kept _ _ c.args.self.now c.come_to_rest.new.self c.args.purse.now c.come_to_rest.new.purse stays.1 c.come_to_rest.ensures.keeps stays.0 c.come_to_rest.ensures.segments c.come_to_rest.ensures.room (ap (λ (f : FeedView). f.reach) c.come_to_rest.ensures.rest),
+      stays.1,
+    )

@@ -15,4 +15,5 @@ invariant_of-self c = record {
   place = c.self.invariant.place;
   some = c.self.invariant.some;
   within = c.self.invariant.within;
+  begun = c.self.invariant.begun;
 }

@@ -7,7 +7,7 @@ use Rattle.lot_store.proofs.stored.StoredPages.take_back.Goals as goal
 pub invariant_of-self : goal.invariant_of-self
 invariant_of-self c =
     store_taken c.self.inside.kept.items (kept_in c.args.feed.now) c.take_pages.new.kept.items c.self.inside.open_page.items (open_page_in c.args.feed.now) c.take_pages.new.open_page.items
-    _ _ _ _ _ _ _ _ _ c.self.invariant
+    _ _ _ _ _ _ _ _ _ _ c.self.invariant
     (omega (arith, c.self.inside.kept.ok.0)) (omega (arith, c.self.inside.open_page.ok.0))
     (λ more. omega (arith, c.requires.whole more, ap (λ (v : PagesView). length v.kept) c.self.view_is, ap (λ (v : PagesView). length v.open_page) c.self.view_is))
     (omega (arith, c.requires.fits, ap (λ (v : PagesView). v.room) c.self.view_is))

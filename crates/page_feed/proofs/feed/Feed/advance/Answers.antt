@@ -1,5 +1,6 @@
 -- One turn of the loop, and its ends.
 use Rattle.std.proofs.Common.{Ok, ap, ◌∙◌, arith}
+use Rattle.page_feed.specs.Feeds.{FeedView}
 use Rattle.page_feed.proofs.LeftLemmas.{known_on, started_on}
 use Rattle.page_feed.proofs.LoopLemmas.{cause_end, goes_after, goes_before, known_before, no_record, readable_all, rows_end, stuck_is}
 use Rattle.page_feed.proofs.ShowLemmas.{shows_next}
@@ -35,6 +36,9 @@ pages-preserved g c =
       later = omega (arith, c.pages.invariant.later, c.give_next.ensures.cause.later);
       tells = c.give_next.ensures.tells ∙ c.pages.invariant.tells;
       counted = c.give_next.ensures.counted ∙ c.pages.invariant.counted;
+      quiet = λ none.
+          let before = c.pages.invariant.quiet none in
+          let now = c.give_next.ensures.quiet (c.put_all_away.ensures.puts.run ∙ ap (λ (f : FeedView). f.run) (c.show_next.ensures.none c.if-show_next.false) ∙ before.1) in (now.0 ∙ before.0, now.1.0);
     }
 
 pub returns-in-Ok-false-clause-started : goal.returns-in-Ok-false-clause-started

@@ -1,4 +1,4 @@
-use Rattle.std.proofs.Common.{◌≡◌, ◌≤◌}
+use Rattle.std.proofs.Common.{◌≡◌, ◌≤◌, None}
 use Rattle.page_feed.specs.Feeding.{GoesOn, pages_to_give}
 use Rattle.page_feed.proofs.feed.Feed.advance.Given as goal
 
@@ -8,6 +8,7 @@ invariant-pages g l = record {
   later : g.D.Spill.fault_count l.fn.disk ≤ g.D.Spill.fault_count l.disk;
   tells : g.D.Spill.told l.disk ≡ g.D.Spill.told l.fn.disk;
   counted : g.D.Spill.given l.disk ≡ g.D.Spill.given l.fn.disk;
+  quiet : l.fn.self.run ≡ None → (l.disk ≡ l.fn.disk) × (l.self.run ≡ None);
 }
 
 abbrev pub decreases-pages : goal.decreases-pages
