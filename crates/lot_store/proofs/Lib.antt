@@ -9,6 +9,7 @@ pub mod RestLemmas
 pub mod ReadLemmas
 pub mod RowLemmas
 pub mod Telling
+pub mod RowsRead
 pub mod StorageSums
 pub mod StorageBlocks
 pub mod StorageLaws

@@ -4,6 +4,7 @@ pub mod Keeping
 pub mod Lots
 pub mod LotKeeping
 pub mod Reads
+pub mod Rows
 pub mod Storage
 pub mod LotCalls
 pub mod Laws

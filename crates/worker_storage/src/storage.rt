@@ -1,0 +1,146 @@
+ghost use Rattle.std.specs.Prelude.{◌≡◌, ◌≢◌, ℕ, ◌+◌, ◌<◌, ◌≤◌, ◌^◌, List, [], ◌∷◌, ◌++◌, All, true, None, Some, IfOk, OnOk, is_ok, length, map, slice_set};
+ghost use Rattle.flow_outside.specs.Blocks.{BothTold};
+ghost use Rattle.flow_outside.specs.Causes.{HasStreamCause};
+ghost use Rattle.flow_outside.specs.Told.{IfTold};
+ghost use Rattle.flow_types.specs.Records.{form, tuple_of};
+ghost use Rattle.lot_store.specs.LotCalls.{AppendsPage, IsSupplied};
+ghost use Rattle.lot_store.specs.Lots.{LotView, empty, held};
+ghost use Rattle.lot_store.specs.Rows.{Gains, IsWhole, rows_in};
+ghost use Rattle.lot_store.specs.Spilling.{HasWriteCause};
+ghost use Rattle.lot_store.specs.Storage.{IsReadyAt, Preserves, held_count, lot_at, with_segment};
+ghost use Rattle.row_pipe.specs.Pipes.{GivesRows, GivesWithin, HasPassCause, RestsAfter};
+ghost use Rattle.worker_storage.specs.Storages.{FreesAll, HoldsSome, IsShort, KeepsStorage, MayRead, Storage, all_places, view_of, with_lot};
+
+use crate::places::{append_at, append_page_at, drop_at, first_fault, pipe_at, rest_at};
+use expr_core::scratch::Scratch;
+use flow_outside::failure::StreamFault;
+use flow_outside::spill::Spill;
+use lot_store::lot::Lot;
+use row_pipe::row_pipe::RowPipe;
+use segment_core::{Purse, Segment};
+use span_bytes::span::Span;
+use spool::io::Io;
+use std::marker::Model;
+
+/// A worker's purse, its disk and its lots, by their places. They always stand together: all segments have one
+/// size, no block of the disk is one of two lots, and the purse has room for every segment. It may not be let go:
+/// `into_parts` gives all back.
+pub struct WorkerStorage<D> {
+    size: u32,
+    purse: Purse,
+    disk: D,
+    lots: Vec<Lot>,
+}
+
+impl<D: Spill> Model for WorkerStorage<D> {
+    ghost use Rattle.lot_store.specs.Storage.{IsReadyAt};
+    ghost use Rattle.worker_storage.specs.Storages.{Storage};
+
+    ghost Value = { Storage D };
+
+    ghost view = { λ s. record {
+      size = s.size;
+      purse = s.purse;
+      disk = s.disk;
+      lots = s.lots.items;
+    } };
+
+    ghost invariant = { λ s.
+        IsReadyAt s.size (record { told = D.told s.disk; purse = s.purse; lots = s.lots.items }) };
+}
+
+impl<D: Spill> WorkerStorage<D> {
+    /// The storage of these parts, which stand together at this size of segments.
+    pub fn of(size: u32, purse: Purse, disk: D, lots: Vec<Lot>) -> WorkerStorage<D>
+        requires { IsReadyAt size (record { told = D.told disk; purse = purse; lots = lots.items }) }
+        ensures { result ≡ record { size = size; purse = purse; disk = disk; lots = lots.items } }
+    {
+        WorkerStorage {
+            size,
+            purse,
+            disk,
+            lots,
+        }
+    }
+
+    /// Takes it apart.
+    pub fn into_parts(self) -> (Purse, D, Vec<Lot>)
+        ensures purse { result.0 ≡ self.purse }
+        ensures disk { result.1 ≡ self.disk }
+        ensures lots { result.2.items ≡ self.lots }
+    {
+        let WorkerStorage {
+            size: _,
+            purse,
+            disk,
+            lots,
+        } = self;
+        (purse, disk, lots)
+    }
+
+    /// Adds a record behind those of a lot, as `Lot::append` does.
+    ///
+    /// `Spill` only where the disk's count of faults rose in this call; what the lot stands for is then open.
+    pub fn append<X: Span>(&mut self, at: usize, row: &X) -> Result<(), StreamFault>
+        requires there { at < length self.old.lots }
+        requires len { length (X.seen row.now) < 2 ^ 32 }
+        requires supply { (d : LotView) → IsSupplied self.old.purse (lot_at self.old.lots at d) }
+        ensures rows { (d : LotView) → IsShort self.old.size (lot_at self.old.lots at d).feed.reach (length (X.seen row.now)) →
+            OnOk result (BothTold (D.told self.old.disk) (D.told self.new.disk)
+            (Gains (lot_at self.old.lots at d) (lot_at self.new.lots at d) (X.seen row.now ∷ []))) }
+        ensures keeps { KeepsStorage D.told self.old self.new (at ∷ []) (at ∷ []) true }
+        ensures cause { HasWriteCause (D.fault_count self.old.disk) (D.fault_count self.new.disk) result }
+        ensures supply { (d : LotView) → OnOk result (IsSupplied self.new.purse (lot_at self.new.lots at d)) }
+    {
+        append_at(&mut self.lots, at, row, &mut self.purse, &mut self.disk)
+    }
+
+    /// Adds a page's used bytes behind those of a lot, as `Lot::append_page` does.
+    ///
+    /// `Spill` only where the disk's count of faults rose in this call; what the lot stands for is then open.
+    pub fn append_page(&mut self, at: usize, page: Segment) -> Result<(), StreamFault>
+        requires there { at < length self.old.lots }
+        requires sized { length page.bytes ≡ self.old.size }
+        requires room { length self.old.purse.pages + held_count self.old.lots < self.old.purse.room }
+        ensures added { (d : LotView) → OnOk result (BothTold (D.told self.old.disk) (D.told self.new.disk)
+            (AppendsPage page (lot_at self.old.lots at d) (lot_at self.new.lots at d))) }
+        ensures keeps { KeepsStorage D.told (record self.old { purse = with_segment page self.old.purse }) self.new (at ∷ []) (at ∷ []) true }
+        ensures cause { HasWriteCause (D.fault_count self.old.disk) (D.fault_count self.new.disk) result }
+    {
+        append_page_at(
+            &mut self.lots,
+            at,
+            page,
+            &mut self.purse,
+            &mut self.disk,
+        )
+    }
+
+    /// Brings a lot to rest, as `Lot::rest` does: it then holds at most as many segments as it keeps pages.
+    ///
+    /// `Spill` only where the disk's count of faults rose in this call; what the lot stands for is then open.
+    pub fn rest(&mut self, at: usize) -> Result<(), StreamFault>
+        requires { at < length self.old.lots }
+        ensures rows { (d : LotView) → OnOk result (BothTold (D.told self.old.disk) (D.told self.new.disk)
+            (Gains (lot_at self.old.lots at d) (lot_at self.new.lots at d) [])) }
+        ensures keeps { KeepsStorage D.told self.old self.new (at ∷ []) (at ∷ []) true }
+        ensures cause { HasWriteCause (D.fault_count self.old.disk) (D.fault_count self.new.disk) result }
+        ensures rests { (d : LotView) → length (held (lot_at self.new.lots at d)) ≤ (lot_at self.new.lots at d).stored.room }
+    {
+        rest_at(&mut self.lots, at, &mut self.purse, &mut self.disk)
+    }
+
+    /// Empties a lot, as `Lot::drop_lot` does: its segments go to the purse, whatever the answer, and where that is
+    /// Ok, no block that was its own is live.
+    pub fn drop_lot(&mut self, at: usize) -> Result<(), StreamFault>
+        requires there { at < length self.old.lots }
+        requires supply { 0 < length self.old.purse.pages }
+        ensures empty { (d : LotView) → lot_at self.new.lots at d
+            ≡ empty (lot_at self.old.lots at d).stored.room (lot_at self.old.lots at d).feed.reach }
+        ensures keeps { KeepsStorage D.told self.old self.new (at ∷ []) (at ∷ []) (is_ok result) }
+        ensures cause { HasStreamCause (D.fault_count self.old.disk) (D.fault_count self.new.disk)
+            (D.told self.old.disk) result }
+    {
+        drop_at(&mut self.lots, at, &mut self.purse, &mut self.disk)
+    }
+}
