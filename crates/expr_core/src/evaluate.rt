@@ -15,7 +15,7 @@ use crate::source::{One, Two};
 use flow_types::expr::Expr;
 use flow_types::field_type::FieldType;
 use flow_types::schema::Schema;
-use flow_types::span::Span;
+use span_bytes::span::Span;
 
 /// Whether an expression of type Bool is true of a record. The record is looked at in place: a field
 /// costs a step for each field before it, texts are compared up to the first byte that differs, and

@@ -6,7 +6,6 @@
 //! `columns_into` the record of the columns' values; neither takes memory.
 #![tactic(auto)]
 
-mod arithmetic;
 mod columns;
 mod eval;
 pub mod evaluate;

@@ -8,7 +8,7 @@ ghost use Rattle.expr_core.specs.Places.{value_in, is_inside, held, starts_at, v
 use crate::seen::{Origin, Seen, TextPlace};
 use flow_types::field_type::FieldType;
 use flow_types::schema::Schema;
-use flow_types::span::Span;
+use span_bytes::span::Span;
 use record_codec::number::long_at;
 use record_codec::place::{Place, field_at};
 

@@ -5,7 +5,7 @@ use flow_types::expr::{BinOp, Expr, UnOp};
 use flow_types::field_type::FieldType;
 use flow_types::row::Row;
 use flow_types::schema::Schema;
-use flow_types::span::Span;
+use span_bytes::span::Span;
 use flow_types::text::Text;
 use flow_types::value::Value;
 use record_codec::check::check_bytes;

@@ -7,7 +7,7 @@ ghost use Rattle.flow_types.specs.Hash.{hash_more};
 use crate::fnv::hash_bytes;
 use flow_types::field_type::FieldType;
 use flow_types::schema::Schema;
-use flow_types::span::Span;
+use span_bytes::span::Span;
 use record_codec::place::field_at;
 
 /// A key's record hashed after other bytes: the forms of its fields, in the key's order. Of a number past

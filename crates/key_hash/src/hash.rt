@@ -7,7 +7,7 @@ ghost use Rattle.key_hash.specs.Buckets.{bucket};
 use crate::fields::hash_key;
 use crate::fnv::{OFFSET_BASIS, hash_byte};
 use flow_types::schema::Schema;
-use flow_types::span::Span;
+use span_bytes::span::Span;
 
 /// The worker, from 0, of so many to which a row goes by its key: FNV-1a, by Fowler, Noll and Vo, of the
 /// key's record, modulo their number. Flink, too, sends a row by a hash of its key modulo the number of

@@ -2,7 +2,7 @@ use crate::fnv::{OFFSET_BASIS, hash_bytes};
 use crate::hash::{bucket, part};
 use flow_types::field_type::FieldType;
 use flow_types::schema::Schema;
-use flow_types::span::Span;
+use span_bytes::span::Span;
 use record_codec::check::check_bytes;
 use std::test::Fail;
 

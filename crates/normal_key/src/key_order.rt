@@ -7,7 +7,7 @@ use crate::prefix::Prefix;
 use crate::write::{write_items, write_key, write_whole};
 use flow_types::order_item::OrderItem;
 use flow_types::schema::Schema;
-use flow_types::span::Span;
+use span_bytes::span::Span;
 use paged_view::order::RecordOrder;
 use paged_view::record_ref::RecordRef;
 use record_codec::check::check_bytes;

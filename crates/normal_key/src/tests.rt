@@ -2,7 +2,7 @@ use crate::key_order::{KeyOrder, compare, fits, prefix};
 use flow_types::field_type::FieldType;
 use flow_types::order_item::OrderItem;
 use flow_types::schema::Schema;
-use flow_types::span::Span;
+use span_bytes::span::Span;
 use std::cmp::Ordering;
 use std::test::Fail;
 

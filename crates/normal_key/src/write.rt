@@ -10,7 +10,7 @@ use crate::prefix::Prefix;
 use flow_types::field_type::FieldType;
 use flow_types::order_item::OrderItem;
 use flow_types::schema::Schema;
-use flow_types::span::Span;
+use span_bytes::span::Span;
 use record_codec::number::long_at;
 use record_codec::place::field_at;
 

@@ -9,7 +9,7 @@ use crate::need_page::NeedPage;
 use crate::page::used_bytes;
 use crate::record_ref::RecordRef;
 use crate::share::Share;
-use flow_types::span::Span;
+use span_bytes::span::Span;
 use segment_core::{Purse, Segment};
 use std::marker::Model;
 

@@ -2,7 +2,7 @@ ghost use Rattle.std.specs.Prelude.{◌≡◌, ◌+◌, ◌-◌, ◌<◌, ◌≤
 ghost use Rattle.paged_view.specs.Shares.{shares};
 
 use crate::share::{Share, bytes_of};
-use flow_types::span::Span;
+use span_bytes::span::Span;
 use segment_core::Segment;
 
 /// A record that is borrowed from where it lies, in one piece or in several. It copies no byte.

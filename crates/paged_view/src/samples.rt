@@ -13,7 +13,7 @@ use crate::share::Share;
 use crate::stream::RecordStream;
 use flow_outside::failure::StreamFault;
 use flow_outside::spill::Spill;
-use flow_types::span::Span;
+use span_bytes::span::Span;
 use std::cmp::Ordering;
 
 /// The framed records of a slice, as a stream that calls no disk.

@@ -3,7 +3,7 @@ ghost use Rattle.segment_core.specs.Segments.{segment_sum};
 
 use crate::reader::PageReader;
 use crate::writer::PageWriter;
-use flow_types::span::Span;
+use span_bytes::span::Span;
 use segment_core::{Pool, Purse, Segment};
 use std::alloc::Global;
 use std::process::Abort;

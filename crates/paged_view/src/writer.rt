@@ -6,7 +6,7 @@ ghost use Rattle.paged_view.specs.Writing.{free, has_full, text_in, written};
 
 use crate::need_page::NeedPage;
 use crate::page::{HEADER_SIZE, body_of, set_used, write_at};
-use flow_types::span::Span;
+use span_bytes::span::Span;
 use segment_core::{Purse, Segment};
 use std::marker::Model;
 

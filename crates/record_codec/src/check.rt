@@ -9,7 +9,7 @@ use crate::number::{length_at, long_at};
 use crate::utf8::is_utf8;
 use flow_types::field_type::FieldType;
 use flow_types::schema::Schema;
-use flow_types::span::Span;
+use span_bytes::span::Span;
 
 /// Whether bytes are the record of a row of the schema: its fields' forms one after the other, and
 /// nothing behind them. Each byte is read once, but for those of a character that the end of a piece

@@ -8,7 +8,7 @@ ghost use Rattle.record_codec.specs.Places.{content, place_in, place_of, start_o
 use crate::number::length_at;
 use flow_types::field_type::FieldType;
 use flow_types::schema::Schema;
-use flow_types::span::Span;
+use span_bytes::span::Span;
 
 /// Where a field's content lies in a record: the bytes of its value, those of a text without its
 /// length.

@@ -7,7 +7,7 @@ use flow_outside::failure::Memory;
 use flow_types::field_type::FieldType;
 use flow_types::row::{Row, compare_rows};
 use flow_types::schema::Schema;
-use flow_types::span::Span;
+use span_bytes::span::Span;
 use flow_types::text::Text;
 use flow_types::value::Value;
 use std::alloc::Global;

@@ -1,8 +1,11 @@
-ghost use Rattle.std.specs.Prelude.{◌≡◌, ◌<◌, ◌≤◌, ◌≢◌, ℕ, List, length, take, drop, slice_index};
+ghost use Rattle.std.specs.Prelude.{◌≡◌, ◌<◌, ℕ, Bool, true, List, length, take, drop, slice_index, is_some, IfSome};
 
 /// Bytes that may lie in several pieces, as a record does that crosses pages. They are seen as one list.
 pub trait Span {
     ghost seen: { Self → List ℕ };
+
+    // Whether one slice is all of them.
+    ghost is_one_piece: { Self → Bool };
 
     /// How many bytes there are.
     fn len(&self) -> usize
@@ -19,11 +22,19 @@ pub trait Span {
         requires { from < length (seen self.now) }
         ensures some { 0 < length result.now }
         ensures bytes { result.now ≡ take (length result.now) (drop from (seen self.now)) };
+
+    /// All bytes in one slice, exactly where they lie in one piece. So a call may look once how the
+    /// bytes lie, and then go over a slice.
+    fn whole(&self) -> Option<&[u8]>
+        ensures one { is_some result ≡ is_one_piece self.now }
+        ensures bytes { IfSome result (λ s. s.now ≡ seen self.now) };
 }
 
 /// A slice is one piece.
 impl Span for &[u8] {
     ghost seen = { λ s. s.now };
+
+    ghost is_one_piece = { λ _. true };
 
     fn len(&self) -> usize {
         (*self).len()
@@ -35,5 +46,9 @@ impl Span for &[u8] {
 
     fn piece(&self, from: usize) -> &[u8] {
         &self[from..]
+    }
+
+    fn whole(&self) -> Option<&[u8]> {
+        Some(*self)
     }
 }

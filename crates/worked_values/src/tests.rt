@@ -1,9 +1,9 @@
-use crate::field_type::FieldType;
-use crate::name::Name;
-use crate::row::{Row, compare_rows, sort_rows};
-use crate::schema::Schema;
-use crate::text::Text;
-use crate::value::{Value, compare};
+use flow_types::field_type::FieldType;
+use flow_types::name::Name;
+use flow_types::row::{Row, compare_rows, sort_rows};
+use flow_types::schema::Schema;
+use flow_types::text::Text;
+use flow_types::value::{Value, compare};
 use std::alloc::Global;
 use std::cmp::Ordering;
 use std::test::Fail;
