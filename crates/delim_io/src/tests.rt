@@ -1,4 +1,4 @@
-ghost use Rattle.std.specs.Prelude.{◌≡◌, Some};
+ghost use Rattle.std.specs.Prelude.{◌≡◌, Some, false};
 
 use crate::first_form::read_packed;
 use crate::input_fault::InputFault;
@@ -196,6 +196,8 @@ struct Pieces<'a> {
 impl<'a> Span for Pieces<'a> {
     ghost seen = { λ p. p.bytes.now };
 
+    ghost is_one_piece = { λ p. false };
+
     fn len(&self) -> usize {
         self.bytes.len()
     }
@@ -207,6 +209,10 @@ impl<'a> Span for Pieces<'a> {
     fn piece(&self, from: usize) -> &[u8] {
         let rest = &self.bytes[from..];
         &rest[..rest.len().min(self.size.max(1))]
+    }
+
+    fn whole(&self) -> Option<&[u8]> {
+        None
     }
 }
 

@@ -16,6 +16,4 @@ mod operation;
 pub mod scratch;
 mod seen;
 mod source;
-#[cfg(test)]
-mod tests;
 mod text;

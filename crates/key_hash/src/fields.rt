@@ -7,8 +7,8 @@ ghost use Rattle.flow_types.specs.Hash.{hash_more};
 use crate::fnv::hash_bytes;
 use flow_types::field_type::FieldType;
 use flow_types::schema::Schema;
-use span_bytes::span::Span;
 use record_codec::place::field_at;
+use span_bytes::span::Span;
 
 /// A key's record hashed after other bytes: the forms of its fields, in the key's order. Of a number past
 /// the fields that is the form of the Long 0.

@@ -7,10 +7,10 @@ use crate::prefix::Prefix;
 use crate::write::{write_items, write_key, write_whole};
 use flow_types::order_item::OrderItem;
 use flow_types::schema::Schema;
-use span_bytes::span::Span;
 use paged_view::order::RecordOrder;
 use paged_view::record_ref::RecordRef;
 use record_codec::check::check_bytes;
+use span_bytes::span::Span;
 use std::cmp::Ordering;
 
 /// An order of the records of a schema: by the fields of a key, the lesser values first, then by the items

@@ -9,8 +9,8 @@ use crate::need_page::NeedPage;
 use crate::page::used_bytes;
 use crate::record_ref::RecordRef;
 use crate::share::Share;
-use span_bytes::span::Span;
 use segment_core::{Purse, Segment};
+use span_bytes::span::Span;
 use std::marker::Model;
 
 /// Reads framed records from the used bytes of its pages, the oldest page first. It may not be let go:

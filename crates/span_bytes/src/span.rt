@@ -1,4 +1,4 @@
-ghost use Rattle.std.specs.Prelude.{◌≡◌, ◌<◌, ℕ, Bool, true, List, length, take, drop, slice_index, is_some, IfSome};
+ghost use Rattle.std.specs.Prelude.{◌≡◌, ◌<◌, All, ℕ, Bool, true, List, length, take, drop, slice_index, is_some, IfSome};
 
 /// Bytes that may lie in several pieces, as a record does that crosses pages. They are seen as one list.
 pub trait Span {
@@ -51,4 +51,25 @@ impl Span for &[u8] {
     fn whole(&self) -> Option<&[u8]> {
         Some(*self)
     }
+}
+
+/// Goes over the pieces once. What is shown of a span is a list of numbers, and that these are bytes is
+/// known of pieces that were read: so a call that doesn't read each byte learns it here, at the cost
+/// of a look at each piece.
+pub fn read_pieces<X: Span>(row: &X)
+    ensures { All (λ b. b < 256) (X.seen row.now) }
+{
+    let len = row.len();
+    let mut at = 0;
+    while at < len {
+        at += byte_count(row.piece(at));
+    }
+}
+
+// How many bytes a slice has. Its first clause serves the proof alone.
+fn byte_count(bytes: &[u8]) -> usize
+    ensures bytes { All (λ b. b < 256) bytes.now }
+    ensures count { result ≡ length bytes.now }
+{
+    bytes.len()
 }
