@@ -1,12 +1,13 @@
 -- Bytes that decide an order, whatever stands behind them.
-use Rattle.std.proofs.Common.{◌≡◌, ℕ, ◌+◌, ◌*◌, ◌<◌, ◌≤◌, ◌⊎◌, inl, inr, true, false, List, [], ◌∷◌, ◌++◌, length, map, refl, sym, ◌∙◌, ap, subst, arith}
+use Rattle.std.proofs.Common.{◌≡◌, ℕ, ◌+◌, ◌*◌, ◌<◌, ◌≤◌, ◌^◌, ◌⊎◌, inl, inr, true, false, List, [], ◌∷◌, ◌++◌, length, refl, sym, ◌∙◌, ap, subst, arith}
 use Rattle.std.specs.Cmp.{nat_cmp_is}
 use Rattle.std.specs.Cmp.Lexicographic.{slice_cmp}
-use Rattle.std.specs.Ordering.{nat_cmp, ordering_then, ordering_reverse}
+use Rattle.std.specs.Ordering.{nat_cmp, ordering_then}
 use Rattle.std.specs.declared.cmp.Ordering.{Ordering}
 use Rattle.std.specs.declared.cmp.Ordering.TheVariants.{Less, Equal, Greater}
+use Rattle.std.specs.Int.{to_be_bytes, w64}
 use Rattle.std.proofs.lemmas.Bool.{cases_order}
-use Rattle.normal_key.specs.NormalForms.{turned}
+use Rattle.std.proofs.lemmas.Nat.{from_be_bytes-to_be_bytes_8}
 
 -- one list is less than another, equal to it or greater, and neither is a proper front of the other
 pub data Decides : List ℕ → List ℕ → Ordering → Type 0 where
@@ -58,18 +59,6 @@ pub low_append : (xs ys : List ℕ) → IsLow xs → IsLow ys → IsLow (xs ++ y
 low_append [] ys left right = right
 low_append (x ∷ xs) ys (low, left) right = (low, low_append xs ys left right)
 
--- bytes that are turned round decide the other way
-pub decides_turned : {a b : List ℕ} {o : Ordering} → IsLow a → IsLow b → Decides a b o
-    → Decides (map (turned true) a) (map (turned true) b) (ordering_reverse o)
-decides_turned left right Decides.ends = Decides.ends
-decides_turned left right (Decides.same d) = Decides.same (decides_turned left.1 right.1 d)
-decides_turned left right (Decides.less {x = x} {y = y} h) = let low : y ≤ 255 = right.0 in Decides.more (omega arith)
-decides_turned left right (Decides.more {x = x} {y = y} h) = let low : x ≤ 255 = left.0 in Decides.less (omega arith)
-
-pub plain_turned : (xs : List ℕ) → map (turned false) xs ≡ xs
-plain_turned [] = refl
-plain_turned (x ∷ xs) = ap (λ (ys : List ℕ). x ∷ ys) (plain_turned xs)
-
 -- ---- numbers of as many bytes
 
 -- the number that bytes write behind others, the high one first
@@ -108,3 +97,29 @@ digits_decide m (x ∷ xs) [] long left right = absurd (omega (arith, long))
 digits_decide m (x ∷ xs) (y ∷ ys) long left right =
     let tails : length xs ≡ length ys = omega (arith, long) in
     digits_head m x y xs ys tails left.1 right.1 (digits_decide (m * 256 + x) xs ys tails left.1 right.1) (cases_order x y)
+
+pub long_low : (n : ℕ) → IsLow (to_be_bytes w64 n)
+long_low n = (omega arith, (omega arith, (omega arith, (omega arith, (omega arith, (omega arith, (omega arith, (omega arith, tt))))))))
+
+-- eight bytes write the number that they were made of
+pub long_number : (n : ℕ) → n < 2 ^ 64 → number 0 (to_be_bytes w64 n) ≡ n
+long_number n small = omega (arith, from_be_bytes-to_be_bytes_8 n small)
+
+-- so eight bytes decide as their numbers do
+pub numbers_decide : (m n : ℕ) → m < 2 ^ 64 → n < 2 ^ 64 → Decides (to_be_bytes w64 m) (to_be_bytes w64 n) (nat_cmp m n)
+numbers_decide m n one other =
+    let same : nat_cmp (number 0 (to_be_bytes w64 m)) (number 0 (to_be_bytes w64 n)) ≡ nat_cmp m n =
+    ap (λ (k : ℕ). nat_cmp k (number 0 (to_be_bytes w64 n))) (long_number m one) ∙ ap (nat_cmp m) (long_number n other) in
+    subst (Decides (to_be_bytes w64 m) (to_be_bytes w64 n)) same (digits_decide 0 (to_be_bytes w64 m) (to_be_bytes w64 n) refl (long_low m) (long_low n))
+
+then_equal : (o : Ordering) → ordering_then o Equal ≡ o
+then_equal Less = refl
+then_equal Equal = refl
+then_equal Greater = refl
+
+-- and sixteen as two numbers, the first one first
+pub two_numbers : (m a n b : ℕ) → m < 2 ^ 64 → a < 2 ^ 64 → n < 2 ^ 64 → b < 2 ^ 64
+    → slice_cmp nat_cmp (to_be_bytes w64 m ++ to_be_bytes w64 a) (to_be_bytes w64 n ++ to_be_bytes w64 b) ≡ ordering_then (nat_cmp m n) (nat_cmp a b)
+two_numbers m a n b one low other below =
+    decides_front (to_be_bytes w64 a) (to_be_bytes w64 b) (numbers_decide m n one other)
+    ∙ ap (ordering_then (nat_cmp m n)) (decides_front [] [] (numbers_decide a b low below) ∙ then_equal (nat_cmp a b))

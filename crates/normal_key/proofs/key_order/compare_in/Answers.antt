@@ -4,7 +4,7 @@ use Rattle.std.specs.declared.cmp.Ordering.TheVariants.{Equal}
 use Rattle.flow_types.specs.Tuples.{Tuple, tuple_cmp}
 use Rattle.flow_types.specs.Records.{tuple_of}
 use Rattle.normal_key.proofs.OrderLemmas.{by_key, by_items, by_whole}
-use Rattle.normal_key.proofs.key_order.compare.Goals as goal
+use Rattle.normal_key.proofs.key_order.compare_in.Goals as goal
 
 pub returns-in_default : goal.returns-in_default
 returns-in_default g c =

@@ -6,7 +6,7 @@ use Rattle.flow_types.specs.Records.{tuple_of}
 use Rattle.normal_key.specs.Comparisons.{ascending}
 use Rattle.normal_key.specs.NormalForms.{directed_form, filled, items_form, whole_form}
 use Rattle.normal_key.proofs.WrittenLemmas.{all_written}
-use Rattle.normal_key.proofs.key_order.prefix.Goals as goal
+use Rattle.normal_key.proofs.key_order.prefix_in.Goals as goal
 
 pub returns : goal.returns
 returns g c =
