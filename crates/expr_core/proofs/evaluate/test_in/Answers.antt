@@ -7,7 +7,7 @@ use Rattle.flow_types.specs.Records.{tuple_of}
 use Rattle.flow_types.specs.Expressions.{val}
 use Rattle.flow_types.proofs.TypeLaws.{value_fits}
 use Rattle.expr_core.proofs.ColumnLemmas.{bool_value}
-use Rattle.expr_core.proofs.evaluate.test.Goals as goal
+use Rattle.expr_core.proofs.evaluate.test_in.Goals as goal
 
 pub returns-clause-value : goal.returns-clause-value
 returns-clause-value g c =
