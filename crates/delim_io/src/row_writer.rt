@@ -15,7 +15,7 @@ use flow_outside::sink::Sink;
 use flow_outside::write_all::write_all;
 use flow_types::field_type::FieldType;
 use flow_types::schema::Schema;
-use flow_types::span::Span;
+use span_bytes::span::Span;
 use flow_types::text::TEXT_LIMIT;
 use itoa::Buffer;
 use record_codec::number::long_at;

@@ -1,4 +1,4 @@
-ghost use Rattle.std.specs.Prelude.{◌≡◌, Some};
+ghost use Rattle.std.specs.Prelude.{◌≡◌, Some, false};
 
 use crate::first_form::read_packed;
 use crate::input_fault::InputFault;
@@ -9,7 +9,7 @@ use flow_outside::sink::Sink;
 use flow_types::field_type::FieldType;
 use flow_types::row::Row;
 use flow_types::schema::Schema;
-use flow_types::span::Span;
+use span_bytes::span::Span;
 use flow_types::text::Text;
 use flow_types::value::Value;
 use record_codec::check::check_bytes;
@@ -196,6 +196,8 @@ struct Pieces<'a> {
 impl<'a> Span for Pieces<'a> {
     ghost seen = { λ p. p.bytes.now };
 
+    ghost is_one_piece = { λ p. false };
+
     fn len(&self) -> usize {
         self.bytes.len()
     }
@@ -207,6 +209,10 @@ impl<'a> Span for Pieces<'a> {
     fn piece(&self, from: usize) -> &[u8] {
         let rest = &self.bytes[from..];
         &rest[..rest.len().min(self.size.max(1))]
+    }
+
+    fn whole(&self) -> Option<&[u8]> {
+        None
     }
 }
 

@@ -1,4 +1,3 @@
-pub mod Numbers
 pub mod FieldLemmas
 pub mod SeenLemmas
 pub mod TextLemmas

@@ -1,4 +1,4 @@
-ghost use Rattle.std.specs.Prelude.{◌≡◌, ◌≤◌, map, option_map, take, IsTrue, IfSome, Some, length};
+ghost use Rattle.std.specs.Prelude.{◌≡◌, ◌≤◌, ◌++◌, map, option_map, take, IsTrue, IfSome, Some, length};
 ghost use Rattle.flow_types.specs.declared.value.Value.TheVariants as value;
 ghost use Rattle.flow_types.specs.Limits.{record_limit};
 ghost use Rattle.flow_types.specs.Values.{flag_of};
@@ -15,7 +15,7 @@ use crate::source::{One, Two};
 use flow_types::expr::Expr;
 use flow_types::field_type::FieldType;
 use flow_types::schema::Schema;
-use flow_types::span::Span;
+use span_bytes::span::Span;
 
 /// Whether an expression of type Bool is true of a record. The record is looked at in place: a field
 /// costs a step for each field before it, texts are compared up to the first byte that differs, and
@@ -28,11 +28,27 @@ pub fn test<X: Span>(e: &Expr, left: &X, ls: &Schema, s: &mut Scratch) -> bool
     ensures value { val (tuple_of ls.now (X.seen left.now)) e.now ≡ value.Bool result }
     ensures flag { result ≡ flag_of (val (tuple_of ls.now (X.seen left.now)) e.now) }
 {
+    match left.whole() {
+        Some(bytes) => test_in(e, &bytes, ls, s.bytes.as_mut_slice()),
+        None => test_in(e, left, ls, s.bytes.as_mut_slice()),
+    }
+}
+
+/// The same, whether the bytes lie in one piece or in several, with the room of the scratch.
+fn test_in<X: Span>(e: &Expr, left: &X, ls: &Schema, room: &mut [u8]) -> bool
+    requires whole { IsRecord ls.now (X.seen left.now) }
+    requires bool { type_of ls.now e.now ≡ Some FieldType.Bool }
+    requires narrow { IsTrue (typing_of ls.now e.now).narrow }
+    requires limited { IsTrue (is_limited e.now) }
+    requires space { length room.old ≡ scratch_bytes }
+    ensures value { val (tuple_of ls.now (X.seen left.now)) e.now ≡ value.Bool result }
+    ensures flag { result ≡ flag_of (val (tuple_of ls.now (X.seen left.now)) e.now) }
+{
     let row = One {
         row: left,
         schema: ls,
     };
-    eval(e, &row, s.bytes.as_mut_slice()).flag()
+    eval(e, &row, room).flag()
 }
 
 /// The record of the columns' values at a record, or at two: then the columns are over the left
@@ -80,6 +96,32 @@ fn write_record<A: Span, B: Span>(
         (λ r. B.seen r.now) right.entry)) e) cols.now) }
     ensures small { result ≤ record_limit }
 {
+    match left.whole() {
+        Some(bytes) => write_joined(cols, &bytes, ls, right, rs, room),
+        None => write_joined(cols, left, ls, right, rs, room),
+    }
+}
+
+/// The same, whether the left bytes lie in one piece or in several.
+fn write_joined<A: Span, B: Span>(
+    cols: &[Expr],
+    left: &A,
+    ls: &Schema,
+    right: Option<&B>,
+    rs: &Schema,
+    room: &mut [u8],
+) -> usize
+    requires left_whole { IsRecord ls.now (A.seen left.now) }
+    requires right_whole { IfSome right (λ r. IsRecord rs.now (B.seen r.now)) }
+    requires typed { IsTrue (are_typed (joined_fields ls.now rs.now (option_map (λ r. B.seen r.now) right)) cols.now) }
+    requires small { widest_of (joined_fields ls.now rs.now (option_map (λ r. B.seen r.now) right)) cols.now
+        ≤ record_limit }
+    requires space { length room.old ≡ scratch_bytes }
+    ensures bytes { take result room.new
+        ≡ form (map (λ e. val (joined_tuple ls.now (A.seen left.now) rs.now (option_map
+        (λ r. B.seen r.now) right.entry)) e) cols.now) }
+    ensures small { result ≤ record_limit }
+{
     match right {
         None => {
             let row = One {
@@ -88,14 +130,36 @@ fn write_record<A: Span, B: Span>(
             };
             write_columns(cols, &row, room)
         }
-        Some(right) => {
-            let row = Two {
-                left,
-                left_schema: ls,
-                right,
-                right_schema: rs,
-            };
-            write_columns(cols, &row, room)
-        }
+        Some(right) => match right.whole() {
+            Some(bytes) => write_two(cols, left, ls, &bytes, rs, room),
+            None => write_two(cols, left, ls, right, rs, room),
+        },
     }
+}
+
+/// The same of two records, whether the right bytes lie in one piece or in several.
+fn write_two<A: Span, B: Span>(
+    cols: &[Expr],
+    left: &A,
+    ls: &Schema,
+    right: &B,
+    rs: &Schema,
+    room: &mut [u8],
+) -> usize
+    requires left_whole { IsRecord ls.now (A.seen left.now) }
+    requires right_whole { IsRecord rs.now (B.seen right.now) }
+    requires typed { IsTrue (are_typed (ls.now ++ rs.now) cols.now) }
+    requires small { widest_of (ls.now ++ rs.now) cols.now ≤ record_limit }
+    requires space { length room.old ≡ scratch_bytes }
+    ensures bytes { take result room.new
+        ≡ form (map (λ e. val (tuple_of ls.now (A.seen left.now) ++ tuple_of rs.now (B.seen right.now)) e) cols.now) }
+    ensures small { result ≤ record_limit }
+{
+    let row = Two {
+        left,
+        left_schema: ls,
+        right,
+        right_schema: rs,
+    };
+    write_columns(cols, &row, room)
 }

@@ -6,7 +6,6 @@
 //! `columns_into` the record of the columns' values; neither takes memory.
 #![tactic(auto)]
 
-mod arithmetic;
 mod columns;
 mod eval;
 pub mod evaluate;
@@ -17,6 +16,4 @@ mod operation;
 pub mod scratch;
 mod seen;
 mod source;
-#[cfg(test)]
-mod tests;
 mod text;

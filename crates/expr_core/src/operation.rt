@@ -5,10 +5,10 @@ ghost use Rattle.flow_types.specs.Values.{bytes_of, value_cmp};
 ghost use Rattle.flow_types.specs.Expressions.{apply_one, apply_two, cut};
 ghost use Rattle.expr_core.specs.Places.{text_bytes, value_in, is_inside, is_text_inside, held, held_by};
 
-use crate::arithmetic::{difference, product, quotient, remainder, sum};
 use crate::seen::{Origin, Seen, TextPlace};
 use crate::source::Source;
 use crate::text::{bring, compare_texts, cut};
+use flow_types::arithmetic::{difference, product, quotient, remainder, sum};
 use flow_types::expr::{BinOp, UnOp};
 use std::cmp::Ordering;
 

@@ -8,9 +8,9 @@ ghost use Rattle.expr_core.specs.Places.{value_in, is_inside, held, starts_at, v
 use crate::seen::{Origin, Seen, TextPlace};
 use flow_types::field_type::FieldType;
 use flow_types::schema::Schema;
-use flow_types::span::Span;
 use record_codec::number::long_at;
 use record_codec::place::{Place, field_at};
+use span_bytes::span::Span;
 
 /// What an expression is evaluated on: a tuple whose fields are seen where they lie in its bytes.
 pub(crate) trait Source {

@@ -8,9 +8,11 @@ pub mod ExprEquations
 pub mod FoldLaws
 pub mod FoldLongs
 pub mod OrderLaws
+pub mod QuotientLemmas
 pub mod RankLaws
 pub mod SortLaws
 pub mod SoundLaws
+pub mod StartLemmas
 pub mod TextLemmas
 pub mod TupleLemmas
 pub mod TypeLaws

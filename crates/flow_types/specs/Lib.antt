@@ -3,6 +3,7 @@ pub mod Limits
 pub mod Names
 pub mod Values
 pub mod Types
+pub mod Starts
 pub mod Tuples
 pub mod Bags
 pub mod SameBags

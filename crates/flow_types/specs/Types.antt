@@ -1,4 +1,4 @@
-use Rattle.std.specs.Prelude.{ℕ, ◌+◌, Bool, true, false, ◌&&◌, nat_le, List, [], ◌∷◌, length, sum_by}
+use Rattle.std.specs.Prelude.{ℕ, ◌+◌, Bool, true, false, ◌&&◌, nat_le, List, [], ◌∷◌, length, take, sum_by}
 use Rattle.std.specs.List.{list_all}
 use Rattle.flow_types.specs.Limits.{text_limit, field_limit, record_limit}
 use Rattle.flow_types.specs.declared.value.Value.{Value}
@@ -22,6 +22,16 @@ width (type.Str bound) = bound + 2
 -- the bytes of the widest record of a schema
 abbrev pub widest : Fields → ℕ
 widest fields = sum_by width fields
+
+-- every value of the field takes as many bytes: it is no text
+abbrev pub has_one_width : FieldType → Bool
+has_one_width type.Long = true
+has_one_width type.Bool = true
+has_one_width (type.Str bound) = false
+
+-- no text stands before a field: so it begins at one place in every record, behind the widths of the fields before it
+abbrev pub is_placed : Fields → ℕ → Bool
+is_placed fields number = list_all has_one_width (take number fields)
 
 -- a bound that a text can have
 abbrev pub is_bounded : FieldType → Bool

@@ -1,5 +1,5 @@
-ghost use Rattle.std.specs.Prelude.{◌≡◌, ◌≤◌};
-ghost use Rattle.flow_types.specs.Types.{width, is_bounded, fits_field};
+ghost use Rattle.std.specs.Prelude.{◌≡◌, ◌≤◌, true};
+ghost use Rattle.flow_types.specs.Types.{width, has_one_width, is_bounded, fits_field};
 
 use crate::text::TEXT_LIMIT;
 use crate::value::Value;
@@ -26,6 +26,17 @@ impl FieldType {
             FieldType::Long => 8,
             FieldType::Bool => 1,
             FieldType::Str(bound) => u32::from(bound) + 2,
+        }
+    }
+
+    /// Whether every value of the field takes as many bytes in a record: all but texts do, at most 8.
+    pub fn has_one_width(self) -> bool
+        ensures value { result ≡ has_one_width self }
+        ensures few { result ≡ true → width self ≤ 8 }
+    {
+        match self {
+            FieldType::Long | FieldType::Bool => true,
+            FieldType::Str(_) => false,
         }
     }
 

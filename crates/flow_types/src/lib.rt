@@ -8,6 +8,7 @@
 #![tactic(auto)]
 
 pub mod agg;
+pub mod arithmetic;
 pub mod decimal;
 pub mod expr;
 pub mod field_type;
@@ -17,8 +18,5 @@ pub mod order_item;
 pub mod row;
 pub mod schema;
 pub mod seg_size;
-pub mod span;
-#[cfg(test)]
-mod tests;
 pub mod text;
 pub mod value;

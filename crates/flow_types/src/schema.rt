@@ -1,8 +1,9 @@
-ghost use Rattle.std.specs.Prelude.{◌≡◌, ◌≤◌, ◌*◌, IsTrue, IfOk, length, sum_by};
+ghost use Rattle.std.specs.Prelude.{◌≡◌, ◌<◌, ◌≤◌, ◌*◌, IsTrue, IfOk, length, take, sum_by};
 ghost use Rattle.std.specs.Option.{SomeIff};
 ghost use Rattle.std.specs.List.{list_all};
 ghost use Rattle.flow_types.specs.Limits.{record_limit};
-ghost use Rattle.flow_types.specs.Types.{width, widest, is_schema, is_bounded, fits};
+ghost use Rattle.flow_types.specs.Types.{width, widest, is_schema, is_placed, is_bounded, fits};
+ghost use Rattle.flow_types.specs.Starts.{IsTable};
 
 use crate::field_type::FieldType;
 use crate::row::Row;
@@ -22,17 +23,22 @@ pub const RECORD_LIMIT: u32 = 16_384;
 #[derive(Debug, Drop)]
 pub struct Schema {
     fields: Vec<FieldType>,
+    // How many fields stand before the first text, or all where there is none, and where each of
+    // these and the next one begin in a record.
+    placed: usize,
+    starts: [u16; FIELD_LIMIT],
 }
 
 impl Model for Schema {
     ghost use Rattle.std.specs.Prelude.{IsTrue};
     ghost use Rattle.flow_types.specs.Types.{Fields, is_schema};
+    ghost use Rattle.flow_types.specs.Starts.{IsTable};
 
     ghost Value = { Fields };
 
     ghost view = { λ s. s.fields.items };
 
-    ghost invariant = { λ s. IsTrue (is_schema s.fields.items) };
+    ghost invariant = { λ s. IsTrue (is_schema s.fields.items) × IsTable s.fields.items s.starts s.placed };
 }
 
 impl Schema {
@@ -44,7 +50,12 @@ impl Schema {
         if !is_schema(fields.as_slice()) {
             return None;
         }
-        Some(Schema { fields })
+        let (placed, starts) = table(fields.as_slice());
+        Some(Schema {
+            fields,
+            placed,
+            starts,
+        })
     }
 
     /// The fields' types, which keep a schema's limits.
@@ -53,6 +64,18 @@ impl Schema {
         ensures limits { IsTrue (is_schema self.now) }
     {
         self.fields.as_slice()
+    }
+
+    /// Where a field begins in every record, or `None` exactly where a text stands before it. It costs
+    /// a look into a table.
+    pub fn start_of(&self, number: usize) -> Option<u16>
+        requires { number < length self.now }
+        ensures { SomeIff result (IsTrue (is_placed self.now number)) (widest (take number self.now)) }
+    {
+        if self.placed < number {
+            return None;
+        }
+        Some(self.starts[number])
     }
 
     /// The bytes of the widest record, at most 16,384; it is summed over the fields at each call.
@@ -76,7 +99,11 @@ impl Schema {
         ensures { IfOk result (λ s. s ≡ self.now) }
     {
         match Vec::from_slice(alloc, self.fields.as_slice()) {
-            Ok(fields) => Ok(Schema { fields }),
+            Ok(fields) => Ok(Schema {
+                fields,
+                placed: self.placed,
+                starts: self.starts,
+            }),
             Err(_) => Err(Memory),
         }
     }
@@ -90,6 +117,26 @@ fn is_schema(fields: &[FieldType]) -> bool
         && fields.len() <= FIELD_LIMIT
         && all_bounded(fields)
         && widest(fields) <= RECORD_LIMIT
+}
+
+/// How many fields stand before the first text, and where each of these and the next one begin.
+fn table(fields: &[FieldType]) -> (usize, [u16; FIELD_LIMIT])
+    requires { length fields.now ≤ 32 }
+    ensures { IsTable fields.now result.1 result.0 }
+{
+    let mut starts = [0; FIELD_LIMIT];
+    let mut start = 0;
+    for i in 0..fields.len() {
+        starts[i] = start;
+        if !fields[i].has_one_width() {
+            return (i, starts);
+        }
+        start += fields[i].width() as u16;
+    }
+    if fields.len() < FIELD_LIMIT {
+        starts[fields.len()] = start;
+    }
+    (fields.len(), starts)
 }
 
 /// Whether no text's bound exceeds a text's limit.

@@ -14,5 +14,3 @@ pub mod fold;
 pub mod laws;
 pub mod part;
 pub mod sum;
-#[cfg(test)]
-mod tests;

@@ -7,12 +7,23 @@ ghost use Rattle.flow_types.specs.Hash.{hash_more};
 use crate::fnv::hash_bytes;
 use flow_types::field_type::FieldType;
 use flow_types::schema::Schema;
-use flow_types::span::Span;
 use record_codec::place::field_at;
+use span_bytes::span::Span;
 
-/// A key's record hashed after other bytes: the forms of its fields, in the key's order. Of a number past
-/// the fields that is the form of the Long 0.
-pub(crate) fn hash_key<X: Span>(hash: u64, row: &X, schema: &Schema, key: &[u16]) -> u64
+/// A key's record hashed after other bytes. How the row's bytes lie is looked up once.
+pub(crate) fn hash_row<X: Span>(hash: u64, row: &X, schema: &Schema, key: &[u16]) -> u64
+    requires { IsRecord schema.now (X.seen row.now) }
+    ensures { result ≡ fold hash_more hash (form (key_of key.now (tuple_of schema.now (X.seen row.now)))) }
+{
+    match row.whole() {
+        Some(bytes) => hash_key(hash, &bytes, schema, key),
+        None => hash_key(hash, row, schema, key),
+    }
+}
+
+/// The same: the forms of the key's fields, in the key's order. Of a number past the fields that is the
+/// form of the Long 0.
+fn hash_key<X: Span>(hash: u64, row: &X, schema: &Schema, key: &[u16]) -> u64
     requires { IsRecord schema.now (X.seen row.now) }
     ensures { result ≡ fold hash_more hash (form (key_of key.now (tuple_of schema.now (X.seen row.now)))) }
 {

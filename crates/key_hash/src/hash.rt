@@ -4,10 +4,10 @@ ghost use Rattle.flow_types.specs.Records.{IsRecord, tuple_of};
 ghost use Rattle.flow_types.specs.Hash.{part};
 ghost use Rattle.key_hash.specs.Buckets.{bucket};
 
-use crate::fields::hash_key;
+use crate::fields::hash_row;
 use crate::fnv::{OFFSET_BASIS, hash_byte};
 use flow_types::schema::Schema;
-use flow_types::span::Span;
+use span_bytes::span::Span;
 
 /// The worker, from 0, of so many to which a row goes by its key: FNV-1a, by Fowler, Noll and Vo, of the
 /// key's record, modulo their number. Flink, too, sends a row by a hash of its key modulo the number of
@@ -21,7 +21,7 @@ pub fn part<X: Span>(row: &X, schema: &Schema, key: &[u16], workers: u32) -> u32
     ensures part { result ≡ part (key_of key.now (tuple_of schema.now (X.seen row.now))) workers }
     ensures below { result < workers }
 {
-    let hash = hash_key(OFFSET_BASIS, row, schema, key);
+    let hash = hash_row(OFFSET_BASIS, row, schema, key);
     (hash % u64::from(workers)) as u32
 }
 
@@ -41,6 +41,6 @@ pub fn bucket<X: Span>(level: u8, row: &X, schema: &Schema, key: &[u16], buckets
     ensures below { result < buckets }
 {
     let started = hash_byte(OFFSET_BASIS, 1 + level);
-    let hash = hash_key(started, row, schema, key);
+    let hash = hash_row(started, row, schema, key);
     ((hash >> 32) % u64::from(buckets)) as u32
 }

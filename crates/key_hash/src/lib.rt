@@ -9,5 +9,3 @@
 mod fields;
 mod fnv;
 pub mod hash;
-#[cfg(test)]
-mod tests;

@@ -8,7 +8,7 @@ ghost use Rattle.lot_list.specs.Together.{AreTogether, ChangesOne, held_count, l
 
 use flow_outside::failure::StreamFault;
 use flow_outside::spill::Spill;
-use flow_types::span::Span;
+use span_bytes::span::Span;
 use lot_store::lot::Lot;
 use segment_core::Purse;
 

@@ -10,7 +10,7 @@ ghost use Rattle.paged_view.specs.Pages.{used_bytes};
 use crate::lot::Lot;
 use flow_outside::failure::StreamFault;
 use flow_outside::spill::Spill;
-use flow_types::span::Span;
+use span_bytes::span::Span;
 use segment_core::{Purse, Segment};
 
 impl Lot {

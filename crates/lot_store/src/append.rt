@@ -8,7 +8,7 @@ ghost use Rattle.lot_store.specs.Spilling.{HasWriteCause};
 use crate::stored::StoredPages;
 use flow_outside::failure::StreamFault;
 use flow_outside::spill::Spill;
-use flow_types::span::Span;
+use span_bytes::span::Span;
 use segment_core::Purse;
 
 impl StoredPages {

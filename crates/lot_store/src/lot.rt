@@ -14,7 +14,7 @@ ghost use Rattle.segment_core.specs.Segments.{PurseView, segment_sum};
 use crate::stored::StoredPages;
 use flow_outside::failure::{Memory, StreamFault};
 use flow_outside::spill::Spill;
-use flow_types::span::Span;
+use span_bytes::span::Span;
 use page_feed::feed::Feed;
 use segment_core::{Purse, Segment};
 use std::alloc::Global;

@@ -26,16 +26,10 @@ use Rattle.flow_types.specs.Types.{fits_field}
 use Rattle.flow_types.proofs.OrderLaws.{value_cmp_total}
 use Rattle.flow_types.proofs.ValueLemmas.{fits_from_long}
 use Rattle.normal_key.specs.NormalForms.{flipped, escaped, normal_form, directed_form}
-use Rattle.normal_key.proofs.DecideLemmas.{Decides, IsLow, low_append, decides_front, decides_head, decides_turned, plain_turned, digits_decide, number, cmp_same, cmp_less, cmp_more}
+use Rattle.span_bytes.proofs.DecideLemmas.{Decides, IsLow, low_append, long_low, long_number, decides_front, decides_head, digits_decide, number, cmp_same, cmp_less, cmp_more}
+use Rattle.normal_key.proofs.TurnedLemmas.{decides_turned, plain_turned}
 
 -- ---- Longs
-
-long_low : (n : ℕ) → IsLow (to_be_bytes w64 n)
-long_low n = (omega arith, (omega arith, (omega arith, (omega arith, (omega arith, (omega arith, (omega arith, (omega arith, tt))))))))
-
--- eight bytes write the number that they were made of
-long_number : (n : ℕ) → n < 2 ^ 64 → number 0 (to_be_bytes w64 n) ≡ n
-long_number n small = omega (arith, from_be_bytes-to_be_bytes_8 n small)
 
 flipped_small : (n : ℤ) → flipped n < 2 ^ 64
 flipped_small n = omega arith

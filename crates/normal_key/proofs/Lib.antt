@@ -1,5 +1,5 @@
 pub mod FitLemmas
-pub mod DecideLemmas
+pub mod TurnedLemmas
 pub mod FormLemmas
 pub mod OrderLemmas
 pub mod WrittenLemmas

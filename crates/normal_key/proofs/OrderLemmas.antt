@@ -23,7 +23,7 @@ use Rattle.normal_key.specs.Fits.{is_record}
 use Rattle.normal_key.specs.Comparisons.{ascending, steps, items_cmp, key_cmp}
 use Rattle.normal_key.specs.NormalForms.{normal_form, directed_form, items_form, whole_form, key_form, key_prefix}
 use Rattle.normal_key.specs.Laws.{IsPrefixed}
-use Rattle.normal_key.proofs.DecideLemmas.{plain_turned}
+use Rattle.normal_key.proofs.TurnedLemmas.{plain_turned}
 use Rattle.normal_key.proofs.FormLemmas.{directed_first}
 use Rattle.normal_key.proofs.FitLemmas.{record_from_test}
 

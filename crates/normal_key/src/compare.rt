@@ -10,9 +10,9 @@ ghost use Rattle.normal_key.specs.Comparisons.{ascending, items_cmp};
 use flow_types::field_type::FieldType;
 use flow_types::order_item::OrderItem;
 use flow_types::schema::Schema;
-use flow_types::span::Span;
 use record_codec::number::long_at;
 use record_codec::place::{Place, field_at};
+use span_bytes::span::Span;
 use std::cmp::Ordering;
 
 /// By the fields of a key, the lesser values first.

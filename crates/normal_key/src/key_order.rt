@@ -7,10 +7,10 @@ use crate::prefix::Prefix;
 use crate::write::{write_items, write_key, write_whole};
 use flow_types::order_item::OrderItem;
 use flow_types::schema::Schema;
-use flow_types::span::Span;
 use paged_view::order::RecordOrder;
 use paged_view::record_ref::RecordRef;
 use record_codec::check::check_bytes;
+use span_bytes::span::Span;
 use std::cmp::Ordering;
 
 /// An order of the records of a schema: by the fields of a key, the lesser values first, then by the items
@@ -90,6 +90,17 @@ pub(crate) fn prefix<X: Span>(row: &X, order: &KeyOrder<'_>) -> [u8; 16]
     requires { IsTrue (is_record order.now.schema.now (X.seen row.now)) }
     ensures { result ≡ bytes_prefix order.now.schema.now order.now.key.now order.now.items.now order.now.whole (X.seen row.now) }
 {
+    match row.whole() {
+        Some(bytes) => prefix_in(&bytes, order),
+        None => prefix_in(row, order),
+    }
+}
+
+/// The same, whether the bytes lie in one piece or in several.
+fn prefix_in<X: Span>(row: &X, order: &KeyOrder<'_>) -> [u8; 16]
+    requires { IsTrue (is_record order.now.schema.now (X.seen row.now)) }
+    ensures { result ≡ bytes_prefix order.now.schema.now order.now.key.now order.now.items.now order.now.whole (X.seen row.now) }
+{
     let mut prefix = Prefix::new();
     write_key(&mut prefix, row, order.schema, order.key);
     write_items(&mut prefix, row, order.schema, order.items);
@@ -99,6 +110,29 @@ pub(crate) fn prefix<X: Span>(row: &X, order: &KeyOrder<'_>) -> [u8; 16]
 
 /// Which record stands first: field by field, up to the first that differs.
 pub(crate) fn compare<X: Span>(a: &X, b: &X, order: &KeyOrder<'_>) -> Ordering
+    requires a_fits { IsTrue (is_record order.now.schema.now (X.seen a.now)) }
+    requires b_fits { IsTrue (is_record order.now.schema.now (X.seen b.now)) }
+    ensures { result ≡ bytes_cmp order.now.schema.now order.now.key.now order.now.items.now order.now.whole (X.seen a.now) (X.seen b.now) }
+{
+    if let Some(left) = a.whole() {
+        if let Some(right) = b.whole() {
+            return compare_slices(left, right, order);
+        }
+    }
+    compare_in(a, b, order)
+}
+
+/// The same of records in one piece.
+fn compare_slices(a: &[u8], b: &[u8], order: &KeyOrder<'_>) -> Ordering
+    requires a_fits { IsTrue (is_record order.now.schema.now a.now) }
+    requires b_fits { IsTrue (is_record order.now.schema.now b.now) }
+    ensures { result ≡ bytes_cmp order.now.schema.now order.now.key.now order.now.items.now order.now.whole a.now b.now }
+{
+    compare_in(&a, &b, order)
+}
+
+/// The same, whether the bytes lie in one piece or in several.
+fn compare_in<X: Span>(a: &X, b: &X, order: &KeyOrder<'_>) -> Ordering
     requires a_fits { IsTrue (is_record order.now.schema.now (X.seen a.now)) }
     requires b_fits { IsTrue (is_record order.now.schema.now (X.seen b.now)) }
     ensures { result ≡ bytes_cmp order.now.schema.now order.now.key.now order.now.items.now order.now.whole (X.seen a.now) (X.seen b.now) }

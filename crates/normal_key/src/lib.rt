@@ -11,6 +11,4 @@ mod compare;
 pub mod key_order;
 pub mod laws;
 mod prefix;
-#[cfg(test)]
-mod tests;
 mod write;

@@ -10,9 +10,9 @@ use crate::prefix::Prefix;
 use flow_types::field_type::FieldType;
 use flow_types::order_item::OrderItem;
 use flow_types::schema::Schema;
-use flow_types::span::Span;
 use record_codec::number::long_at;
 use record_codec::place::field_at;
+use span_bytes::span::Span;
 
 /// The forms of a key's fields, ascending.
 pub(crate) fn write_key<X: Span>(prefix: &mut Prefix, row: &X, schema: &Schema, key: &[u16])

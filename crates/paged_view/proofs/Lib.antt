@@ -2,6 +2,5 @@ pub mod PageLemmas
 pub mod WritingLemmas
 pub mod SpanLemmas
 pub mod RecordLemmas
-pub mod SampleLemmas
 pub mod ReadingLemmas
 pub mod TakingLemmas

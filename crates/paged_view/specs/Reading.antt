@@ -1,5 +1,5 @@
 -- What a reader of pages holds.
-use Rattle.std.specs.Prelude.{ℕ, ◌+◌, ◌^◌, ◌<◌, ◌≤◌, Bool, false, List, [], ◌∷◌, length, take, drop, nat_le}
+use Rattle.std.specs.Prelude.{◌≡◌, ℕ, ◌+◌, ◌^◌, ◌<◌, ◌≤◌, Bool, false, List, [], ◌∷◌, length, take, drop, nat_le}
 use Rattle.std.specs.Int.{from_be_bytes, w32}
 use Rattle.segment_core.specs.Segments.{SegmentView}
 use Rattle.paged_view.specs.Pages.{used_bytes, all_used_bytes, page_at}
@@ -51,3 +51,9 @@ pub record IsReader (pages : List SegmentView) (len capacity room page off pendi
   pub within : off ≤ length (used_bytes (page_at pages page))
   pub whole : off + pending ≤ length (all_used_bytes (drop page pages))
   pub small : off + pending < 2 ^ 34
+
+-- A record of this length stands at a byte of the used bytes of a page, and lies in that page with its length.
+pub record IsHere (pages : List SegmentView) (page at len : ℕ) : Type 0 where
+  pub whole : HasRecord (unread pages page at)
+  pub size : len ≡ size_of (unread pages page at)
+  pub within : at + 4 + len ≤ length (used_bytes (page_at pages page))

@@ -12,10 +12,6 @@ pub mod order;
 pub mod page;
 pub mod reader;
 pub mod record_ref;
-#[cfg(test)]
-mod samples;
 pub mod share;
 pub mod stream;
-#[cfg(test)]
-mod tests;
 pub mod writer;

@@ -2,15 +2,15 @@ ghost use Rattle.std.specs.Prelude.{◌≡◌, ℕ, ◌+◌, ◌-◌, ◌^◌, �
 ghost use Rattle.std.specs.Borrow.{sem};
 ghost use Rattle.segment_core.specs.Segments.{segment_sum};
 ghost use Rattle.paged_view.specs.Pages.{used_bytes, all_used_bytes, page_at};
-ghost use Rattle.paged_view.specs.Reading.{size_of, HasRecord, first_record, moved, has_spent, unread};
+ghost use Rattle.paged_view.specs.Reading.{size_of, HasRecord, first_record, moved, has_spent, unread, IsHere};
 ghost use Rattle.paged_view.specs.Seen.{seen_in};
 
 use crate::need_page::NeedPage;
 use crate::page::used_bytes;
 use crate::record_ref::RecordRef;
 use crate::share::Share;
-use flow_types::span::Span;
 use segment_core::{Purse, Segment};
+use span_bytes::span::Span;
 use std::marker::Model;
 
 /// Reads framed records from the used bytes of its pages, the oldest page first. It may not be let go:
@@ -95,12 +95,17 @@ impl PageReader {
     /// Moves past the next record, which is then the head.
     ///
     /// `NeedPage` exactly where the unread bytes don't begin with a whole framed record: then nothing
-    /// changes. It reads the record's length alone.
+    /// changes. It reads the record's length alone, and where the record lies in one page, one header.
     pub fn advance(&mut self) -> Result<(), NeedPage>
         ensures need { IsOk result ↔ HasRecord self.old.text }
         ensures ok { OnOk result (self.new ≡ moved self.old) }
         ensures err { OnErr result (self.new ≡ self.old) }
     {
+        if let Some(len) = len_here(&self.pages, self.page, self.off + self.pending) {
+            self.off = self.off + self.pending + 4;
+            self.pending = len;
+            return Ok(());
+        }
         let start = place_at(&self.pages, self.page, self.off + self.pending);
         let Some(len) = whole_len(&self.pages, start) else {
             return Err(NeedPage);
@@ -224,6 +229,39 @@ fn place_at(pages: &Vec<Segment>, page: usize, at: usize) -> Place
         page += 1;
     }
     Place { page, off }
+}
+
+// The length of the record that begins at byte `at` of the used bytes of a page, where it lies in that
+// page with its length. It looks at one header. None says nothing.
+fn len_here(pages: &Vec<Segment>, page: usize, at: usize) -> Option<usize>
+    ensures here { IfSome result (IsHere pages.now.items page at) }
+    ensures small { IfSome result (λ len. at + 4 + len ≤ 32752) }
+{
+    if page >= pages.len() {
+        return None;
+    }
+    let used = used_bytes(&pages[page]);
+    if used.len() < at {
+        return None;
+    }
+    let rest = &used[at..];
+    if rest.len() < 4 {
+        return None;
+    }
+    let len = len_of(rest);
+    if rest.len() - 4 < len {
+        return None;
+    }
+    Some(len)
+}
+
+// The length that the first four bytes name.
+fn len_of(text: &[u8]) -> usize
+    requires { 4 ≤ length text.now }
+    ensures value { result ≡ size_of text.now }
+    ensures small { result < 2 ^ 32 }
+{
+    u32::from_be_bytes([text[0], text[1], text[2], text[3]]) as usize
 }
 
 // The length of the record that begins at a place, where it is whole.

@@ -2,8 +2,8 @@ ghost use Rattle.std.specs.Prelude.{◌≡◌, ◌+◌, ◌-◌, ◌<◌, ◌≤
 ghost use Rattle.paged_view.specs.Shares.{shares};
 
 use crate::share::{Share, bytes_of};
-use flow_types::span::Span;
 use segment_core::Segment;
+use span_bytes::span::Span;
 
 /// A record that is borrowed from where it lies, in one piece or in several. It copies no byte.
 #[derive(Clone, Copy)]
@@ -64,9 +64,11 @@ impl<'a> RecordRef<'a> {
 }
 
 impl Span for RecordRef<'_> {
-    ghost use Rattle.paged_view.specs.Seen.{seen_in};
+    ghost use Rattle.paged_view.specs.Seen.{seen_in, lies_in_first};
 
     ghost seen = { seen_in };
+
+    ghost is_one_piece = { lies_in_first };
 
     fn len(&self) -> usize {
         self.len
@@ -79,6 +81,14 @@ impl Span for RecordRef<'_> {
     fn piece(&self, from: usize) -> &[u8] {
         let tail = self.tail(from);
         &tail[..tail.len().min(self.len - from)]
+    }
+
+    fn whole(&self) -> Option<&[u8]> {
+        if self.len <= self.first.len() {
+            Some(&self.first[..self.len])
+        } else {
+            None
+        }
     }
 }
 

@@ -1,4 +1,4 @@
-ghost use Rattle.std.specs.Prelude.{◌≡◌, ℕ, ◌<◌, ◌≤◌, true, List, Option, None, Ok, IfOk, MatchResult, is_some, option_map};
+ghost use Rattle.std.specs.Prelude.{◌≡◌, ℕ, ◌<◌, ◌≤◌, true, List, Option, None, Ok, IfOk, MatchResult, IsErrOf, is_some, option_map};
 ghost use Rattle.flow_outside.specs.Blocks.{Blocks};
 ghost use Rattle.segment_core.specs.Segments.{SegmentView, segment_sum};
 ghost use Rattle.flow_outside.specs.Causes.{HasStreamCause};
@@ -36,7 +36,8 @@ pub trait RecordStream<D: Spill> {
     /// and ends the life of none.
     ///
     /// `Spill` comes only where the disk's count of faults rose in this call, `Damaged` only over a disk
-    /// that doesn't tell. After either no record is shown, and what is left is open.
+    /// that doesn't tell; it names the block of the page that was read last. After either no record is
+    /// shown, and what is left is open.
     fn advance(&mut self, disk: &mut D) -> Result<bool, StreamFault>
         requires ready { IsReady self.old }
         requires known { KnowsRows (D.told disk.old) (left self.old (D.told disk.old)) }
@@ -52,6 +53,7 @@ pub trait RecordStream<D: Spill> {
         ensures segments { (h : ℕ → ℕ → ℕ) → segment_sum h (held self.new) ≡ segment_sum h (held self.old) }
         ensures tells { D.told disk.new ≡ D.told disk.old }
         ensures counted { D.given disk.new ≡ D.given disk.old }
+        ensures damaged { (block : ℕ) → IsErrOf result (StreamFault.Damaged block) → block ≡ block_read self.new }
         ensures cause { HasStreamCause (D.fault_count disk.old) (D.fault_count disk.new)
             (D.told disk.old) result };
 

@@ -6,8 +6,8 @@ ghost use Rattle.paged_view.specs.Writing.{free, has_full, text_in, written};
 
 use crate::need_page::NeedPage;
 use crate::page::{HEADER_SIZE, body_of, set_used, write_at};
-use flow_types::span::Span;
 use segment_core::{Purse, Segment};
+use span_bytes::span::Span;
 use std::marker::Model;
 
 /// Writes framed records into the bodies of its pages, the oldest page first, and gives the pages out

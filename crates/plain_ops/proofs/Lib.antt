@@ -1,6 +1,5 @@
 pub mod CutLemmas
 pub mod Indexed
 pub mod KeyPieces
-pub mod Numbers
 pub mod SolutionLemmas
 pub mod Steps

@@ -3,11 +3,11 @@ ghost use Rattle.flow_types.specs.Expressions.{wrap};
 ghost use Rattle.flow_types.specs.Folds.{long_at, sum_of, lesser, greater, least_of, greatest_of, number_or, fold_of};
 ghost use Rattle.flow_model.specs.Rows.{folds_of};
 
-use crate::arithmetic::sum;
 use crate::lists::push_value;
 use crate::values::{field_or, long_of};
 use flow_outside::failure::Memory;
 use flow_types::agg::Agg;
+use flow_types::arithmetic::sum;
 use flow_types::row::Row;
 use flow_types::value::Value;
 

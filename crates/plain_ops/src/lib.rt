@@ -6,7 +6,6 @@
 //! cost is about n log n comparisons and what is made.
 #![tactic(auto)]
 
-mod arithmetic;
 mod cut;
 mod folds;
 pub mod groups;

@@ -3,10 +3,10 @@ ghost use Rattle.flow_types.specs.declared.value.Value.TheVariants as value;
 ghost use Rattle.flow_types.specs.Values.{bytes_of};
 ghost use Rattle.flow_types.specs.Expressions.{cut, apply_one, apply_two, val};
 
-use crate::arithmetic::{difference, product, quotient, remainder, sum};
 use crate::cut::cut;
 use crate::values::{copy_field, flag_of, long_of, str_value, text_of};
 use flow_outside::failure::Memory;
+use flow_types::arithmetic::{difference, product, quotient, remainder, sum};
 use flow_types::expr::{BinOp, Expr, UnOp};
 use flow_types::value::{Value, compare};
 use std::alloc::Global;

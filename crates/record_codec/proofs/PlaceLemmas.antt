@@ -1,13 +1,17 @@
 -- Places of fields.
-use Rattle.std.proofs.Common.{◌≡◌, ℕ, zero, suc, ◌+◌, ◌<◌, List, [], ◌∷◌, ◌++◌, length, take, drop, slice_index_or, refl, sym, ◌∙◌, ap, arith}
+use Rattle.std.proofs.Common.{◌≡◌, ℕ, zero, suc, ◌+◌, ◌<◌, List, [], ◌∷◌, ◌++◌, length, take, drop, slice_index_or, refl, sym, ◌∙◌, ap, subst, arith, ◌≤◌, length-drop}
+use Rattle.std.specs.Prelude.{IsTrue}
+use Rattle.std.proofs.lemmas.Bool.{false≢true}
+use Rattle.std.proofs.lemmas.List.Sums.{sum_by-cons}
 use Rattle.std.specs.Int.{from_be_bytes, w16}
 use Rattle.std.proofs.lemmas.List.{take_more, drop-drop}
 use Rattle.flow_types.specs.declared.field_type.FieldType.{FieldType}
 use Rattle.flow_types.specs.declared.field_type.FieldType.TheVariants as type
 use Rattle.flow_types.specs.Tuples.{field}
-use Rattle.flow_types.specs.Types.{Fields}
-use Rattle.flow_types.specs.Records.{first_value, taken, tuple_of}
-use Rattle.record_codec.specs.Prefixes.{StandsFrom}
+use Rattle.flow_types.specs.Types.{Fields, width, widest, is_placed}
+use Rattle.flow_types.specs.Records.{IsRecord, first_value, taken, tuple_of}
+use Rattle.record_codec.specs.Prefixes.{BeginsWith, StandsFrom}
+use Rattle.record_codec.proofs.PrefixLemmas.{record_begins, record_behind, first_inside}
 use Rattle.record_codec.specs.Places.{start_of, content}
 
 -- one field more
@@ -59,3 +63,36 @@ field_content fields schema seen i start at len is inside same bytes =
     ∙ ap (λ (n : ℕ). content (first_value (slice_index_or fields i type.Long) (drop n seen))) same
     ∙ ap (λ (fs : Fields). content (first_value (slice_index_or fs i type.Long) (drop (start_of (take i fs) seen) seen))) is
     ∙ ap content (sym (tuple_at schema seen i type.Long inside))
+
+-- a field with no text before it begins behind the widths of the fields before it
+pub start_placed : (fields : Fields) (i : ℕ) (bytes : List ℕ) → IsTrue (is_placed fields i) → start_of (take i fields) bytes ≡ widest (take i fields)
+start_placed [] zero bytes placed = refl
+start_placed [] (suc i) bytes placed = refl
+start_placed (f ∷ fs) zero bytes placed = refl
+start_placed (type.Long ∷ fs) (suc i) bytes placed =
+    ap (λ (n : ℕ). 8 + n) (start_placed fs i (drop 8 bytes) placed) ∙ sym (sum_by-cons width type.Long (take i fs))
+start_placed (type.Bool ∷ fs) (suc i) bytes placed =
+    ap (λ (n : ℕ). 1 + n) (start_placed fs i (drop 1 bytes) placed) ∙ sym (sum_by-cons width type.Bool (take i fs))
+start_placed (type.Str b ∷ fs) (suc i) bytes placed = absurd (false≢true placed)
+
+-- a record from the start of one of its fields on is the record of the fields from there on
+pub record_from : (fields : Fields) (bytes : List ℕ) (i : ℕ) → i ≤ length fields → IsRecord fields bytes
+    → (start_of (take i fields) bytes ≤ length bytes) × IsRecord (drop i fields) (drop (start_of (take i fields) bytes) bytes)
+record_from fields bytes zero inside is = (omega arith, is)
+record_from [] bytes (suc i) inside is = absurd (omega arith)
+record_from (f ∷ fs) bytes (suc i) inside is =
+    let begins : BeginsWith f bytes = record_begins f fs bytes is in
+    let rest : List ℕ = drop (taken f bytes) bytes in
+    let behind = record_from fs rest i (omega arith) ((record_behind f fs bytes begins).0 is) in
+    let within : taken f bytes ≤ length bytes = first_inside f bytes begins in (
+      omega (arith, behind.0, length-drop (taken f bytes) bytes),
+      subst (λ (bs : List ℕ). IsRecord (drop i fs) bs) (drop-drop (start_of (take i fs) rest) (taken f bytes) bytes) behind.1,
+    )
+
+pub start_found : (fields : Fields) (bytes : List ℕ) (i start : ℕ) → i < length fields → IsRecord fields bytes
+    → IsTrue (is_placed fields i) → start ≡ widest (take i fields)
+    → (start ≡ start_of (take i fields) bytes) × (start ≤ length bytes) × IsRecord (drop i fields) (drop start bytes)
+start_found fields bytes i start inside is placed at =
+    let same : start ≡ start_of (take i fields) bytes = at ∙ sym (start_placed fields i bytes placed) in
+    let from = record_from fields bytes i (omega arith) is in
+    (same, omega (arith, from.0), subst (λ (n : ℕ). IsRecord (drop i fields) (drop n bytes)) (sym same) from.1)

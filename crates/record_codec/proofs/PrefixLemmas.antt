@@ -1,11 +1,17 @@
 -- Values at the front of bytes.
-use Rattle.std.proofs.Common.{◌≡◌, ℕ, ◌+◌, ◌-◌, ◌<◌, ◌≤◌, Bool, true, false, ◌==◌, nat_le, List, [], ◌∷◌, ◌++◌, length, take, drop, slice_index_or, refl, sym, ◌∙◌, ap, subst, arith, length-append, length-drop, append_assoc, ◌↔◌, IsUtf8, IsTrue}
-use Rattle.std.specs.Int.{to_be_bytes, from_be_bytes, w16}
+use Rattle.std.proofs.Common.{◌≡◌, ℕ, ◌+◌, ◌-◌, ◌<◌, ◌≤◌, Bool, true, false, ◌==◌, nat_le, List, [], ◌∷◌, ◌++◌, length, take, drop, slice_index_or, refl, sym, ◌∙◌, ap, subst, arith, length-append, length-drop, append_assoc, ◌↔◌, IsUtf8, IsTrue, All, ⊎_elim, ◌^◌, ℤ, w64, FitsSigned}
+use Rattle.std.specs.Int.{to_be_bytes, from_be_bytes, cast_signed, w16}
+use Rattle.std.specs.Ordering.{int_eq}
+use Rattle.std.proofs.Math.Facts.{sfits_to_z}
+use Rattle.std.proofs.lemmas.Int.{int_wrap_fits}
+use Rattle.std.proofs.lemmas.Cmp.{int_eq_equiv}
+use Rattle.std.proofs.lemmas.List.Elements.{All-take, All-drop}
+use Rattle.record_codec.proofs.NumberLemmas.{long_bytes}
 use Rattle.std.specs.Str.{is_utf8}
 use Rattle.std.specs.List.{list_all}
-use Rattle.std.proofs.lemmas.Bool.{and_parts, and_from, le-leb, leb-true, eqb-true, eq-eqb}
+use Rattle.std.proofs.lemmas.Bool.{cases_lt, and_parts, and_from, le-leb, leb-true, eqb-true, eq-eqb}
 use Rattle.std.proofs.lemmas.Nat.{from_be_bytes-to_be_bytes_2}
-use Rattle.std.proofs.lemmas.List.{take-append-drop, drop_at, append_cancel_left, length-take-le, drop-drop, drop_more, drop_all, nil_from_length}
+use Rattle.std.proofs.lemmas.List.{take-append-drop, drop_at, append_cancel_left, length-take-le, drop-drop, drop_more, drop_all, nil_from_length, get_or_past}
 use Rattle.std.proofs.lemmas.Str.{is_utf8-from_IsUtf8, IsUtf8-from_is_utf8}
 use Rattle.flow_types.specs.declared.value.Value.{Value}
 use Rattle.flow_types.specs.Tuples.{Tuple}
@@ -27,6 +33,36 @@ pub long_inside : (f : FieldType) (start : ℕ) (seen : List ℕ) → f ≡ type
 long_inside f start seen is inside begins =
     let long : BeginsWith type.Long (drop start seen) = subst (λ (g : FieldType). BeginsWith g (drop start seen)) is begins in
     omega (arith, ap length long.formed, length-drop start seen)
+
+-- each byte is small, and so is what is read past the end
+each_small : (bytes : List ℕ) → All (λ b. b < 256) bytes → (i : ℕ) → slice_index_or bytes i 0 < 256
+each_small bytes small i =
+    ⊎_elim (λ inside. small i 0 inside) (λ past. omega (arith, get_or_past bytes i 0 past)) (cases_lt i (length bytes))
+
+-- a Long stands in any eight bytes
+pub long_begins : (bytes : List ℕ) → 8 ≤ length bytes → All (λ b. b < 256) bytes → BeginsWith type.Long bytes
+long_begins bytes long small =
+    let front : List ℕ = take 8 bytes in
+    let n : ℤ = cast_signed w64 (from_be_bytes w64 front) in
+    let full : length front ≡ 8 = length-take-le 8 bytes long in
+    let each : (i : ℕ) → slice_index_or front i 0 < 256 = each_small front (All-take (λ b. b < 256) 8 bytes small) in
+    let bound : from_be_bytes w64 front < 2 ^ 64 = omega (arith, each 0, each 1, each 2, each 3, each 4, each 5, each 6, each 7) in
+    let fit : FitsSigned w64 n = sfits_to_z (record { fits = bound }) in
+    record {
+      fitting = refl;
+      value = subst (λ (z : ℤ). IsTrue (int_eq z n)) (sym (int_wrap_fits w64 n fit)) (int_eq_equiv.refl n);
+      formed = sym (take-append-drop 8 bytes)
+          ∙ ap (λ (xs : List ℕ). xs ++ drop 8 bytes) (sym (long_bytes n front full each refl));
+    }
+
+-- so one stands from a place on with eight bytes behind it
+pub long_stands : (seen : List ℕ) (start : ℕ) → start + 8 ≤ length seen → All (λ b. b < 256) seen
+    → StandsFrom type.Long seen start (start + 8)
+long_stands seen start inside small = record {
+  begins = long_begins (drop start seen) (omega (arith, length-drop start seen)) (All-drop (λ b. b < 256) start seen small);
+  ends = refl;
+  inside = inside;
+}
 
 -- a text's length is the one that its form names
 pub text_length : (bytes s rest : List ℕ) → IsTrue (is_text s) → bytes ≡ (to_be_bytes w16 (length s) ++ s) ++ rest
@@ -76,6 +112,12 @@ text_parts bound bytes begins =
       long = omega (arith, ap length begins.formed, length-append s rest);
       utf8 = IsUtf8-from_is_utf8 s (and_parts (nat_le (length s) text_limit) (is_utf8 s) begins.value).1;
     }
+
+-- the value that bytes begin with lies within them
+pub first_inside : (f : FieldType) (bytes : List ℕ) → BeginsWith f bytes → taken f bytes ≤ length bytes
+first_inside type.Long bytes begins = omega (arith, ap length begins.formed)
+first_inside type.Bool bytes begins = omega (arith, ap length begins.formed)
+first_inside (type.Str bound) bytes begins = (text_parts bound bytes begins).long
 
 -- where the form of the value that bytes are read as stands in front of others, they are those behind it
 pub behind_first : (f : FieldType) (bytes rest : List ℕ) → IsTrue (is_value (first_value f bytes))

@@ -1,28 +1,50 @@
-ghost use Rattle.std.specs.Prelude.{◌≡◌, ◌≤◌, ◌↔◌, length, drop, IsTrue, IfSome};
+ghost use Rattle.std.specs.Prelude.{◌≡◌, ◌<◌, ◌≤◌, ◌↔◌, All, length, drop, IsTrue, IfSome};
 ghost use Rattle.std.specs.List.{list_all};
 ghost use Rattle.flow_types.specs.Types.{is_bounded};
 ghost use Rattle.flow_types.specs.Limits.{text_limit};
 ghost use Rattle.flow_types.specs.Records.{IsRecord};
 ghost use Rattle.record_codec.specs.Prefixes.{BeginsWith, StandsFrom};
 
-use crate::number::{length_at, long_at};
+use crate::number::length_at;
 use crate::utf8::is_utf8;
 use flow_types::field_type::FieldType;
 use flow_types::schema::Schema;
-use flow_types::span::Span;
+use span_bytes::span::{Span, read_pieces};
 
 /// Whether bytes are the record of a row of the schema: its fields' forms one after the other, and
-/// nothing behind them. Each byte is read once, but for those of a character that the end of a piece
-/// cuts, and no memory is taken.
+/// nothing behind them. Of a Bool and of a text each byte is read once, but for those of a character that
+/// the end of a piece cuts; any eight bytes are a Long, so only the length tells of Longs. No memory is
+/// taken.
 pub fn check_bytes<X: Span>(row: &X, schema: &Schema) -> bool
     ensures { IsTrue result ↔ IsRecord schema.now (X.seen row.now) }
 {
-    check_fields(row, schema.fields())
+    match row.whole() {
+        Some(bytes) => check_slice(bytes, schema.fields()),
+        None => check_pieces(row, schema.fields()),
+    }
 }
 
-/// The same for the fields of a schema.
-fn check_fields<X: Span>(row: &X, fields: &[FieldType]) -> bool
+/// The same of bytes in one piece, for the fields of a schema.
+fn check_slice(bytes: &[u8], fields: &[FieldType]) -> bool
     requires { IsTrue (list_all is_bounded fields.now) }
+    ensures { IsTrue result ↔ IsRecord fields.now bytes.now }
+{
+    check_fields(&bytes, fields)
+}
+
+/// The same of bytes in several pieces.
+fn check_pieces<X: Span>(row: &X, fields: &[FieldType]) -> bool
+    requires { IsTrue (list_all is_bounded fields.now) }
+    ensures { IsTrue result ↔ IsRecord fields.now (X.seen row.now) }
+{
+    read_pieces(row);
+    check_fields(row, fields)
+}
+
+/// The same where it is known that all bytes are bytes.
+fn check_fields<X: Span>(row: &X, fields: &[FieldType]) -> bool
+    requires bounded { IsTrue (list_all is_bounded fields.now) }
+    requires bytes { All (λ b. b < 256) (X.seen row.now) }
     ensures { IsTrue result ↔ IsRecord fields.now (X.seen row.now) }
 {
     let mut start = 0;
@@ -38,6 +60,7 @@ fn check_fields<X: Span>(row: &X, fields: &[FieldType]) -> bool
 /// The place behind the value of a field that stands from a place on, `None` exactly where none does.
 fn field_end<X: Span>(row: &X, field: FieldType, start: usize) -> Option<usize>
     requires bounded { IsTrue (is_bounded field) }
+    requires bytes { All (λ b. b < 256) (X.seen row.now) }
     requires inside { start ≤ length (X.seen row.now) }
     ensures found { IfSome result (StandsFrom field (X.seen row.now) start) }
     ensures none { result ≡ None → ¬ BeginsWith field (drop start (X.seen row.now)) }
@@ -49,16 +72,16 @@ fn field_end<X: Span>(row: &X, field: FieldType, start: usize) -> Option<usize>
     }
 }
 
-/// The place behind a Long. A span says only of what was read that it is bytes, so the eight are read.
+/// The place behind a Long: any eight bytes are one.
 fn long_end<X: Span>(row: &X, start: usize) -> Option<usize>
-    requires { start ≤ length (X.seen row.now) }
+    requires bytes { All (λ b. b < 256) (X.seen row.now) }
+    requires inside { start ≤ length (X.seen row.now) }
     ensures found { IfSome result (StandsFrom FieldType.Long (X.seen row.now) start) }
     ensures none { result ≡ None → ¬ BeginsWith FieldType.Long (drop start (X.seen row.now)) }
 {
     if row.len() - start < 8 {
         return None;
     }
-    long_at(row, start);
     Some(start + 8)
 }
 

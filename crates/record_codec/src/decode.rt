@@ -10,9 +10,9 @@ use flow_outside::failure::Memory;
 use flow_types::field_type::FieldType;
 use flow_types::row::Row;
 use flow_types::schema::Schema;
-use flow_types::span::Span;
 use flow_types::text::Text;
 use flow_types::value::Value;
+use span_bytes::span::Span;
 use std::alloc::Global;
 
 /// The row of a record. The cost is one allocation for the list of values and one for each text, whose

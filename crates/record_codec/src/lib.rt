@@ -12,6 +12,4 @@ pub mod encode;
 pub mod laws;
 pub mod number;
 pub mod place;
-#[cfg(test)]
-mod tests;
 mod utf8;

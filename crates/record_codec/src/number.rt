@@ -1,7 +1,7 @@
 ghost use Rattle.std.specs.Prelude.{◌≡◌, ◌+◌, ◌≤◌, length, take, drop};
 ghost use Rattle.std.specs.Int.{w16, w64, from_be_bytes, to_be_bytes, cast_signed, cast_unsigned};
 
-use flow_types::span::Span;
+use span_bytes::span::Span;
 
 /// The Long that eight bytes write from a place on, the high byte first, in two's complement. They
 /// are read at once where they lie in one piece.

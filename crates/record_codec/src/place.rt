@@ -8,7 +8,7 @@ ghost use Rattle.record_codec.specs.Places.{content, place_in, place_of, start_o
 use crate::number::length_at;
 use flow_types::field_type::FieldType;
 use flow_types::schema::Schema;
-use flow_types::span::Span;
+use span_bytes::span::Span;
 
 /// Where a field's content lies in a record: the bytes of its value, those of a text without its
 /// length.
@@ -20,8 +20,9 @@ pub struct Place {
     pub len: usize,
 }
 
-/// Where the content of field `i` lies, by its number from 0. The cost is a step for each field before
-/// it; of these only the lengths of texts are read.
+/// Where the content of field `i` lies, by its number from 0. Before the first text a field's place is
+/// looked up in the schema; behind it the cost is a step for each field before it, of which only the
+/// lengths of texts are read.
 pub fn field_at<X: Span>(row: &X, schema: &Schema, i: usize) -> Place
     requires record { IsRecord schema.now (X.seen row.now) }
     requires exists { i < length schema.now }
@@ -29,9 +30,38 @@ pub fn field_at<X: Span>(row: &X, schema: &Schema, i: usize) -> Place
     ensures inside { result.start + result.len ≤ length (X.seen row.now) }
     ensures bytes { take result.len (drop result.start (X.seen row.now)) ≡ content (field i (tuple_of schema.now (X.seen row.now))) }
 {
+    match row.whole() {
+        Some(bytes) => place_at(&bytes, schema, i),
+        None => place_at(row, schema, i),
+    }
+}
+
+/// The same, whether the bytes lie in one piece or in several.
+fn place_at<X: Span>(row: &X, schema: &Schema, i: usize) -> Place
+    requires record { IsRecord schema.now (X.seen row.now) }
+    requires exists { i < length schema.now }
+    ensures place { result ≡ place_of schema.now (X.seen row.now) i }
+    ensures inside { result.start + result.len ≤ length (X.seen row.now) }
+    ensures bytes { take result.len (drop result.start (X.seen row.now)) ≡ content (field i (tuple_of schema.now (X.seen row.now))) }
+{
+    let start = start_at(row, schema, i);
+    first_place(row, schema.fields()[i], start)
+}
+
+/// Where a field begins, with a text's length.
+fn start_at<X: Span>(row: &X, schema: &Schema, i: usize) -> usize
+    requires record { IsRecord schema.now (X.seen row.now) }
+    requires exists { i < length schema.now }
+    ensures start { result ≡ start_of (take i schema.now) (X.seen row.now) }
+    ensures inside { result ≤ length (X.seen row.now) }
+    ensures rest { IsRecord (drop i schema.now) (drop result (X.seen row.now)) }
+    ensures small { length (X.seen row.now) ≤ record_limit }
+{
     let fields = schema.fields();
-    let start = field_start(row, fields, i);
-    first_place(row, fields[i], start)
+    match schema.start_of(i) {
+        Some(start) => usize::from(start),
+        None => field_start(row, fields, i),
+    }
 }
 
 /// Where field `i` begins, with a text's length.

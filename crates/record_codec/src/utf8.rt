@@ -1,7 +1,7 @@
 ghost use Rattle.std.specs.Prelude.{◌≡◌, ℕ, ◌+◌, ◌-◌, ◌<◌, ◌≤◌, ◌↔◌, length, take, drop, IsTrue};
 ghost use Rattle.std.specs.Str.{IsUtf8};
 
-use flow_types::span::Span;
+use span_bytes::span::Span;
 use std::str;
 
 /// Whether the bytes from `start` to `end` are UTF-8. Each piece is tested where it lies; a character

@@ -19,7 +19,7 @@ use flow_outside::failure::StreamFault;
 use flow_outside::spill::Spill;
 use flow_types::expr::Expr;
 use flow_types::schema::Schema;
-use flow_types::span::Span;
+use span_bytes::span::Span;
 use lot_store::lot::Lot;
 use segment_core::Purse;
 

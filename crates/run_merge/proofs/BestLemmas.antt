@@ -22,7 +22,7 @@ one_of a b o is_a is_b = cc
 none_of : (a : Row) (o : Option Row) → o ≡ None → o ≡ Some a → ⊥
 none_of a o none some = cc
 
-any_default : {S : Type 0} (xs : List S) (at : ℕ) (d e : S) → at < length xs → slice_index_or xs at d ≡ slice_index_or xs at e
+pub any_default : {S : Type 0} (xs : List S) (at : ℕ) (d e : S) → at < length xs → slice_index_or xs at d ≡ slice_index_or xs at e
 any_default [] at d e low = absurd (omega (arith, low))
 any_default (x ∷ xs) zero d e low = refl
 any_default (x ∷ xs) (suc at) d e low = any_default xs at d e (omega (arith, low))

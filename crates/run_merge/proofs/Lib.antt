@@ -3,3 +3,4 @@ pub mod PlaceLemmas
 pub mod BestLemmas
 pub mod MergeLemmas
 pub mod TakeLemmas
+pub mod PrefixLemmas

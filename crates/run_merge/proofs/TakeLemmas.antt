@@ -1,5 +1,5 @@
 -- The first of the least records is given.
-use Rattle.std.proofs.Common.{◌≡◌, ◌≢◌, inl, inr, ℕ, zero, suc, ◌+◌, ◌<◌, ◌≤◌, Bool, true, false, cond, All, IsTrue, List, [], ◌∷◌, ◌++◌, length, take, slice_index_or, Option, Some, None, is_some, refl, sym, ap, ◌∙◌, subst, arith, sum_by, Result, Ok, Err, IsErr, MatchResult}
+use Rattle.std.proofs.Common.{◌≡◌, ◌≢◌, inl, inr, ℕ, zero, suc, ◌+◌, ◌<◌, ◌≤◌, Bool, true, false, cond, All, IsTrue, List, [], ◌∷◌, ◌++◌, length, take, slice_index_or, Option, Some, None, is_some, refl, sym, ap, ◌∙◌, subst, arith, sum_by, Result, Ok, Err, IsErr, MatchResult, MatchOption}
 use Rattle.std.proofs.lemmas.Bool.{cases_eq}
 use Rattle.std.proofs.lemmas.List.Sums.{sum_by-cons}
 use Rattle.std.specs.List.{flat_map}
@@ -11,8 +11,9 @@ use Rattle.segment_core.specs.Segments.{SegmentView, segment_sum}
 use Rattle.segment_core.proofs.Weighing.{segment_sum-append}
 use Rattle.flow_outside.specs.declared.failure.StreamFault.{StreamFault}
 use Rattle.paged_view.specs.Streams.{Advances}
-use Rattle.run_merge.specs.Merging.{Ascends, IsLeastBelow, Merges, Pending, Row, Rows, ShowsFitting, WaitsFitting, merged, most_of, number_at, shown_at, yields}
+use Rattle.run_merge.specs.Merging.{Ascends, IsLeastBelow, Merges, Pending, Row, Rows, ShowsFitting, WaitsFitting, merged, most_of, number_at, number_of_given, shown_at, yields}
 use Rattle.run_merge.specs.declared.source.Source.{Source}
+use Rattle.run_merge.specs.Prefixes.{KeepsPrefix}
 use Rattle.run_merge.proofs.MergeLemmas.{none_left, taken}
 use Rattle.run_merge.proofs.PlaceLemmas.{first_of, one_sum}
 
@@ -25,8 +26,11 @@ pub shown_nowhere : {R : Type 0} (shown : R → Option Row) (sources : List (Sou
 shown_nowhere shown [] = refl
 shown_nowhere shown (s ∷ sources) = refl
 
-pub all_shown : {R : Type 0} (fit : Row → Bool) (shown : R → Option Row) (sources : List (Source R)) → All (WaitsFitting fit shown) sources → All (λ (s : Source R). s.given ≡ false) sources → All (λ (s : Source R). ShowsFitting fit (shown s.stream)) sources
-all_shown fit shown sources fitting waits = λ k d low. fitting k d low (waits k d low)
+pub all_shown : {R : Type 0} (fit : Row → Bool) (prefix_of : Row → List ℕ) (shown : R → Option Row) (sources : List (Source R)) → All (WaitsFitting fit prefix_of shown) sources → All (λ (s : Source R). s.given ≡ false) sources → All (λ (s : Source R). ShowsFitting fit (shown s.stream)) sources
+all_shown fit prefix_of shown sources fitting waits = λ k d low. (fitting k d low (waits k d low)).0
+
+pub all_kept : {R : Type 0} (fit : Row → Bool) (prefix_of : Row → List ℕ) (shown : R → Option Row) (sources : List (Source R)) → All (WaitsFitting fit prefix_of shown) sources → All (λ (s : Source R). s.given ≡ false) sources → All (λ (s : Source R). KeepsPrefix prefix_of s.prefix (shown s.stream)) sources
+all_kept fit prefix_of shown sources fitting waits = λ k d low. (fitting k d low (waits k d low)).1
 
 module _ {R : Type 0} (sources now : List (Source R)) (place : ℕ) (low : place < length sources) (count : length now ≡ length sources)
     (same : (i : ℕ) (d : Source R) → i ≢ place → slice_index_or now i d ≡ slice_index_or sources i d)
@@ -38,10 +42,10 @@ module _ {R : Type 0} (sources now : List (Source R)) (place : ℕ) (low : place
     | inr far ↦ subst (λ (s : Source R). P s.stream) (sym (same k d far)) (all k d (omega (arith, inside, count)))
   ]
 
-  pub all_fitting : (fit : Row → Bool) (shown : R → Option Row) → All (WaitsFitting fit shown) sources → All (WaitsFitting fit shown) now
-  all_fitting fit shown all = λ k d inside. elim (cases_eq k place) [
-    | inl is ↦ subst (λ j. WaitsFitting fit shown (slice_index_or now j d)) (sym is) (λ waits. let wrong : true ≡ false = sym (given d) ∙ waits in cc)
-    | inr far ↦ subst (WaitsFitting fit shown) (sym (same k d far)) (all k d (omega (arith, inside, count)))
+  pub all_fitting : (fit : Row → Bool) (prefix_of : Row → List ℕ) (shown : R → Option Row) → All (WaitsFitting fit prefix_of shown) sources → All (WaitsFitting fit prefix_of shown) now
+  all_fitting fit prefix_of shown all = λ k d inside. elim (cases_eq k place) [
+    | inl is ↦ subst (λ j. WaitsFitting fit prefix_of shown (slice_index_or now j d)) (sym is) (λ waits. let wrong : true ≡ false = sym (given d) ∙ waits in cc)
+    | inr far ↦ subst (WaitsFitting fit prefix_of shown) (sym (same k d far)) (all k d (omega (arith, inside, count)))
   ]
 
   pub sum_of_streams : (f : R → ℕ) → sum_by (λ (s : Source R). f s.stream) now ≡ sum_by (λ (s : Source R). f s.stream) sources
@@ -123,9 +127,15 @@ number_in number [] place e low = absurd (omega (arith, low))
 number_in number (s ∷ sources) zero e low = refl
 number_in number (s ∷ sources) (suc place) e low = number_in number sources place e (omega (arith, low))
 
-pub number_nowhere : {R : Type 0} (number : R → ℕ) (sources : List (Source R)) → number_at number sources None ≡ 0
-number_nowhere number [] = refl
-number_nowhere number (s ∷ sources) = refl
+-- the first whose record was given, where none before it was
+pub first_given : {R : Type 0} (number : R → ℕ) (sources : List (Source R)) (at : ℕ) (e : Source R) → at < length sources
+    → ((i : ℕ) (d : Source R) → i < at → (slice_index_or sources i d).given ≡ false) → (slice_index_or sources at e).given ≡ true
+    → number_of_given number sources ≡ number (slice_index_or sources at e).stream
+first_given number [] at e low before here = absurd (omega (arith, low))
+first_given number (s ∷ sources) zero e low before here = ap (λ b. cond b (number s.stream) (number_of_given number sources)) here
+first_given number (s ∷ sources) (suc at) e low before here =
+    ap (λ b. cond b (number s.stream) (number_of_given number sources)) (before 0 s (omega arith))
+    ∙ first_given number sources at e (omega (arith, low)) (λ i d less. before (suc i) d (omega (arith, less))) here
 
 -- a list before another, as many as it has
 pub front_of : {X : Type 0} (n : ℕ) (xs ys : List X) → n ≡ length xs → take n (xs ++ ys) ≡ xs
@@ -133,3 +143,23 @@ front_of zero [] ys is = refl
 front_of zero (x ∷ xs) ys is = absurd (omega (arith, is))
 front_of (suc n) [] ys is = absurd (omega (arith, is))
 front_of (suc n) (x ∷ xs) ys is = ap (λ rest. x ∷ rest) (front_of n xs ys (omega (arith, is)))
+
+-- the last source was taken out, or there was none
+pub last_out : {R : Type 0} (old new : List (Source R)) (answer : Option R) (source : Source R) (stream : R) → answer ≡ Some stream → old ≡ new ++ source ∷ [] → source.stream ≡ stream
+    → MatchOption answer ((old ≡ []) × (new ≡ [])) (λ stream. (x : Source R) × (old ≡ new ++ x ∷ []) × (x.stream ≡ stream))
+last_out old new None source stream none is same = cc
+last_out {R = R} old new (Some it) source stream some is same =
+    let equal : it ≡ stream = cc in
+    (source, is, same ∙ sym equal)
+
+take_nil : {X : Type 0} (k : ℕ) (none : List X) → none ≡ [] → take k none ≡ []
+take_nil zero none is = refl
+take_nil (suc k) [] is = refl
+take_nil (suc k) (x ∷ xs) is = cc
+
+pub none_out : {R : Type 0} (old new : List (Source R)) (answer : Option R) (n m : ℕ) → answer ≡ None → n ≡ 0 → n ≡ length old → new ≡ take m old
+    → MatchOption answer ((old ≡ []) × (new ≡ [])) (λ stream. (x : Source R) × (old ≡ new ++ x ∷ []) × (x.stream ≡ stream))
+none_out [] new None zero m none is count rest = (refl, rest ∙ take_nil m [] refl)
+none_out [] new None (suc n) m none is count rest = absurd (omega (arith, is))
+none_out (x ∷ xs) new None n m none is count rest = absurd (omega (arith, is, count))
+none_out old new (Some it) n m none is count rest = cc

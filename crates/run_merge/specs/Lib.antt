@@ -1,3 +1,4 @@
+pub mod Prefixes
 pub mod Merging
 pub mod Collected
 pub mod Laws

@@ -2,11 +2,12 @@
 -- those of an earlier stream stand first.
 use Rattle.std.specs.Prelude.{◌≡◌, ℕ, zero, suc, ◌<◌, ◌+◌, Bool, true, false, List, [], ◌∷◌, Option, Some, None, All, IsTrue, slice_index_or, cond, is_some}
 use Rattle.std.specs.List.{flat_map}
-use Rattle.std.specs.Ordering.{is_gt}
+use Rattle.std.specs.Ordering.{is_gt, is_lt}
 use Rattle.std.specs.declared.cmp.Ordering.{Ordering}
 use Rattle.flow_outside.specs.Blocks.{Blocks}
 use Rattle.flow_types.specs.Bags.{sort_by}
 use Rattle.run_merge.specs.declared.source.Source.{Source}
+use Rattle.run_merge.specs.Prefixes.{KeepsPrefix}
 
 -- a record's bytes, and records one after the other
 abbrev pub Row : Type 0
@@ -56,13 +57,19 @@ abbrev pub ShowsFitting : (Row → Bool) → Option Row → Type 0
 ShowsFitting fit None = Unit {0}
 ShowsFitting fit (Some row) = IsTrue (fit row)
 
--- the row that a source shows passes the test, where it wasn't given yet
-abbrev pub WaitsFitting : {R : Type 0} → (Row → Bool) → (R → Option Row) → Source R → Type 0
-WaitsFitting fit shown s = s.given ≡ false → ShowsFitting fit (shown s.stream)
+-- the row that a source shows passes the test, and its prefix is kept, where it wasn't given yet
+abbrev pub WaitsFitting : {R : Type 0} → (Row → Bool) → (Row → List ℕ) → (R → Option Row) → Source R → Type 0
+WaitsFitting fit prefix_of shown s = s.given ≡ false → ShowsFitting fit (shown s.stream) × KeepsPrefix prefix_of s.prefix (shown s.stream)
 
 -- how many records it still gives at most, the one that it shows among them where that wasn't given yet
 abbrev pub most_of : {R : Type 0} → (R → Option Row) → (R → ℕ) → Source R → ℕ
 most_of shown most s = most s.stream + cond s.given 0 (cond (is_some (shown s.stream)) 1 0)
+
+-- a test's answer is whether one row that is shown is less than another, where both are shown
+abbrev pub IsLess : (Row → Row → Ordering) → Bool → Option Row → Option Row → Type 0
+IsLess cmp answer None other = Unit {0}
+IsLess cmp answer (Some row) None = Unit {0}
+IsLess cmp answer (Some row) (Some other) = answer ≡ is_lt (cmp row other)
 
 -- Of the first `count` rows that are shown, the one at this place is the first of the least ones.
 pub record IsLeastBelow {R : Type 0} (cmp : Row → Row → Ordering) (shown : R → Option Row) (sources : List (Source R)) (count place : ℕ) (row : Row) : Type 0 where
@@ -89,3 +96,19 @@ number_at number [] place = 0
 number_at number (s ∷ sources) None = 0
 number_at number (s ∷ sources) (Some zero) = number s.stream
 number_at number (s ∷ sources) (Some (suc place)) = number_at number sources (Some place)
+
+-- the number of the first stream whose record was given, 0 where there is none: where a stream failed it is that one,
+-- since those before it show their next records
+abbrev pub number_of_given : {R : Type 0} → (R → ℕ) → List (Source R) → ℕ
+number_of_given number [] = 0
+number_of_given number (s ∷ sources) = cond s.given (number s.stream) (number_of_given number sources)
+
+-- the block that a merge read last: that of the stream whose record it shows, and where it shows none that of the first
+-- whose record was given
+abbrev pub block_at : {R : Type 0} → (R → ℕ) → List (Source R) → Option ℕ → ℕ
+block_at number sources None = number_of_given number sources
+block_at number sources (Some place) = number_at number sources (Some place)
+
+-- a stream that was added: it counts as not advanced, so what it shows isn't given, only what it has left
+abbrev pub added : {R : Type 0} → R → Source R
+added stream = record { stream = stream; given = true; prefix = None }

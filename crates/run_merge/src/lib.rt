@@ -8,6 +8,7 @@ mod choose;
 mod fill;
 pub mod laws;
 pub mod merge;
+mod prefix;
 mod source;
 pub mod streams;
 mod take;

@@ -11,8 +11,9 @@ use std::marker::Model;
 /// Streams as one, by an order. It may not be let go: `end` gives the streams back.
 ///
 /// The first record costs an `advance` of each stream, each further one an `advance` of the stream that gave the one
-/// before; each costs a test of the record that it reads and a comparison with each stream's, at the place where they
-/// lie. No call takes memory, and no record is copied.
+/// before; each costs a test and the prefix of the record that it reads, and a comparison of its prefix with that of the
+/// record that each other stream shows. Only where two prefixes are the same are the records compared, at the place where
+/// they lie. No call takes memory, and no record is copied.
 pub struct Merge<'a, R, O> {
     streams: Streams<R>,
     order: &'a O,
@@ -55,15 +56,15 @@ impl<'a, R, O> Merge<'a, R, O> {
 impl<D: Spill, R: RecordStream<D>, O: RecordOrder> RecordStream<D> for Merge<'_, R, O> {
     ghost use Rattle.std.specs.Prelude.{All, sum_by};
     ghost use Rattle.std.specs.List.{flat_map};
-    ghost use Rattle.run_merge.specs.Merging.{Merges, WaitsFitting, most_of, number_at, shown_at, yields};
+    ghost use Rattle.run_merge.specs.Merging.{Merges, WaitsFitting, block_at, most_of, shown_at, yields};
 
     ghost left = { λ m told rows. Merges (O.cmp m.order) (yields (O.cmp m.order) (O.is_fit m.order) R.shown R.left told) m.sources rows };
 
-    ghost IsReady = { λ m. All (λ s. R.IsReady s.stream) m.sources × All (WaitsFitting (O.is_fit m.order) R.shown) m.sources };
+    ghost IsReady = { λ m. All (λ s. R.IsReady s.stream) m.sources × All (WaitsFitting (O.is_fit m.order) (O.prefix_of m.order) R.shown) m.sources };
 
     ghost shown = { λ m. shown_at R.shown m.sources m.shown };
 
-    ghost block_read = { λ m. number_at R.block_read m.sources m.shown };
+    ghost block_read = { λ m. block_at R.block_read m.sources m.shown };
 
     ghost most_left = { λ m. sum_by (most_of R.shown R.most_left) m.sources };
 

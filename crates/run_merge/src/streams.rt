@@ -1,12 +1,13 @@
-ghost use Rattle.std.specs.Prelude.{◌≡◌, ◌≤◌, ◌<◌, ℕ, [], ◌∷◌, ◌++◌, All, Bool, true, IfOk, MatchOption, is_some, length, option_map, sum_by};
+ghost use Rattle.std.specs.Prelude.{◌≡◌, ◌≤◌, ◌<◌, ℕ, [], ◌∷◌, ◌++◌, All, IfOk, IsErrOf, MatchOption, is_some, length, option_map, sum_by};
 ghost use Rattle.std.specs.List.{flat_map};
 ghost use Rattle.flow_outside.specs.Causes.{HasStreamCause};
 ghost use Rattle.segment_core.specs.Segments.{segment_sum};
 ghost use Rattle.paged_view.specs.Seen.{seen_in};
 ghost use Rattle.paged_view.specs.Streams.{Advances, KnowsRows};
-ghost use Rattle.run_merge.specs.Merging.{Merges, Rows, WaitsFitting, most_of, number_at, shown_at, yields};
+ghost use Rattle.run_merge.specs.declared.source.Source.{Source};
+ghost use Rattle.run_merge.specs.Merging.{Merges, Rows, WaitsFitting, most_of, added, block_at, number_of_given, shown_at, yields};
 
-use crate::choose::{block_of, head_of};
+use crate::choose::{block_of, block_of_given, head_of};
 use crate::source::Source;
 use crate::take::take_least;
 use flow_outside::failure::{Memory, StreamFault};
@@ -49,11 +50,12 @@ impl<R> Streams<R> {
     /// Adds a stream behind the others. It counts as not advanced: what it shows isn't given, only what it has left.
     pub fn push(&mut self, stream: R)
         requires { length self.old.sources < self.old.room }
-        ensures { self.new ≡ record { room = self.old.room; sources = self.old.sources ++ record { stream = stream; given = true } ∷ [] } }
+        ensures { self.new ≡ record { room = self.old.room; sources = self.old.sources ++ added stream ∷ [] } }
     {
         self.items.push_reserved(Source {
             stream,
             given: true,
+            prefix: None,
         });
     }
 
@@ -62,11 +64,15 @@ impl<R> Streams<R> {
         ensures room { self.new.room ≡ self.old.room }
         ensures last { MatchOption result
             ((self.old.sources ≡ []) × (self.new.sources ≡ []))
-            (λ stream. (given : Bool) × (self.old.sources ≡ self.new.sources ++ record { stream = stream; given = given } ∷ [])) }
+            (λ stream. (source : Source R) × (self.old.sources ≡ self.new.sources ++ source ∷ []) × (source.stream ≡ stream)) }
     {
         match self.items.pop() {
             Some(source) => {
-                let Source { stream, given: _ } = source;
+                let Source {
+                    stream,
+                    given: _,
+                    prefix: _,
+                } = source;
                 Some(stream)
             }
             None => None,
@@ -90,10 +96,10 @@ impl<R> Streams<R> {
     where
         R: RecordStream<D>,
         requires ready { All (λ s. R.IsReady s.stream) self.old.sources }
-        requires fitting { All (WaitsFitting (O.is_fit order.now) R.shown) self.old.sources }
+        requires fitting { All (WaitsFitting (O.is_fit order.now) (O.prefix_of order.now) R.shown) self.old.sources }
         requires known { KnowsRows (D.told disk.old) (Merges (O.cmp order.now) (yields (O.cmp order.now) (O.is_fit order.now) R.shown R.left (D.told disk.old)) self.old.sources) }
         ensures ready { All (λ s. R.IsReady s.stream) self.new.sources }
-        ensures fitting { All (WaitsFitting (O.is_fit order.now) R.shown) self.new.sources }
+        ensures fitting { All (WaitsFitting (O.is_fit order.now) (O.prefix_of order.now) R.shown) self.new.sources }
         ensures rows { IfOk result (λ place. (rows : Rows) →
             Merges (O.cmp order.now) (yields (O.cmp order.now) (O.is_fit order.now) R.shown R.left (D.told disk.old)) self.old.sources rows →
             Advances rows (is_some place) (shown_at R.shown self.new.sources place)
@@ -102,6 +108,8 @@ impl<R> Streams<R> {
         ensures later { sum_by (most_of R.shown R.most_left) self.new.sources ≤ sum_by (most_of R.shown R.most_left) self.old.sources }
         ensures falls { IfOk result (λ place. MatchOption place Unit (λ _. sum_by (most_of R.shown R.most_left) self.new.sources < sum_by (most_of R.shown R.most_left) self.old.sources)) }
         ensures room { self.new.room ≡ self.old.room }
+        ensures count { length self.new.sources ≡ length self.old.sources }
+        ensures damaged { (block : ℕ) → IsErrOf result (StreamFault.Damaged block) → block ≡ number_of_given R.block_read self.new.sources }
         ensures segments { (h : ℕ → ℕ → ℕ) → segment_sum h (flat_map (λ s. R.held s.stream) self.new.sources) ≡ segment_sum h (flat_map (λ s. R.held s.stream) self.old.sources) }
         ensures tells { D.told disk.new ≡ D.told disk.old }
         ensures counted { D.given disk.new ≡ D.given disk.old }
@@ -122,15 +130,16 @@ impl<R> Streams<R> {
         }
     }
 
-    /// The block that the stream at a place read last, 0 where there is no place.
+    /// The block that the stream at a place read last, and where there is no place that of the first
+    /// stream whose record was given.
     pub(crate) fn block_at<D: Spill>(&self, place: Option<usize>) -> u64
     where
         R: RecordStream<D>,
-        ensures { result ≡ number_at R.block_read self.now.sources place }
+        ensures { result ≡ block_at R.block_read self.now.sources place }
     {
         match place {
             Some(place) => block_of::<D, R>(&self.items, place),
-            None => 0,
+            None => block_of_given::<D, R>(&self.items),
         }
     }
 }

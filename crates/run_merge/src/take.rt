@@ -1,11 +1,11 @@
 //! The first of the least records is given.
-ghost use Rattle.std.specs.Prelude.{◌≡◌, ℕ, ◌<◌, ◌≤◌, Option, false, All, IfOk, MatchOption, is_some, length, sum_by};
+ghost use Rattle.std.specs.Prelude.{◌≡◌, ℕ, ◌<◌, ◌≤◌, Option, false, All, IfOk, IsErrOf, MatchOption, is_some, length, sum_by};
 ghost use Rattle.std.specs.List.{flat_map};
 ghost use Rattle.flow_outside.specs.Blocks.{Blocks};
 ghost use Rattle.flow_outside.specs.Causes.{HasStreamCause};
 ghost use Rattle.segment_core.specs.Segments.{segment_sum};
 ghost use Rattle.paged_view.specs.Streams.{Advances, KnowsRows};
-ghost use Rattle.run_merge.specs.Merging.{Merges, Rows, WaitsFitting, most_of, shown_at, yields};
+ghost use Rattle.run_merge.specs.Merging.{Merges, Rows, WaitsFitting, most_of, number_of_given, shown_at, yields};
 
 use crate::choose::{give, least};
 use crate::fill::fill;
@@ -22,10 +22,10 @@ pub(crate) fn take_least<D: Spill, R: RecordStream<D>, O: RecordOrder>(
     disk: &mut D,
 ) -> Result<Option<usize>, StreamFault>
     requires ready { All (λ s. R.IsReady s.stream) sources.old }
-    requires fitting { All (WaitsFitting (O.is_fit order.now) R.shown) sources.old }
+    requires fitting { All (WaitsFitting (O.is_fit order.now) (O.prefix_of order.now) R.shown) sources.old }
     requires known { KnowsRows (D.told disk.old) (Merges (O.cmp order.now) (yields (O.cmp order.now) (O.is_fit order.now) R.shown R.left (D.told disk.old)) sources.old) }
     ensures ready { All (λ s. R.IsReady s.stream) sources.new }
-    ensures fitting { All (WaitsFitting (O.is_fit order.now) R.shown) sources.new }
+    ensures fitting { All (WaitsFitting (O.is_fit order.now) (O.prefix_of order.now) R.shown) sources.new }
     ensures rows { IfOk result (λ place. (rows : Rows) →
         Merges (O.cmp order.now) (yields (O.cmp order.now) (O.is_fit order.now) R.shown R.left (D.told disk.old)) sources.old rows →
         Advances rows (is_some place) (shown_at R.shown sources.new place)
@@ -37,6 +37,7 @@ pub(crate) fn take_least<D: Spill, R: RecordStream<D>, O: RecordOrder>(
     ensures segments { (h : ℕ → ℕ → ℕ) → segment_sum h (flat_map (λ s. R.held s.stream) sources.new) ≡ segment_sum h (flat_map (λ s. R.held s.stream) sources.old) }
     ensures tells { D.told disk.new ≡ D.told disk.old }
     ensures counted { D.given disk.new ≡ D.given disk.old }
+    ensures damaged { (block : ℕ) → IsErrOf result (StreamFault.Damaged block) → block ≡ number_of_given R.block_read sources.new }
     ensures cause { HasStreamCause (D.fault_count disk.old) (D.fault_count disk.new) (D.told disk.old) result }
 {
     fill(sources, order, disk)?;
@@ -49,10 +50,10 @@ fn take_first<D: Spill, R: RecordStream<D>, O: RecordOrder>(
     order: &O,
 ) -> Option<usize>
     requires ready { All (λ s. R.IsReady s.stream) sources.old }
-    requires fitting { All (WaitsFitting (O.is_fit order.now) R.shown) sources.old }
+    requires fitting { All (WaitsFitting (O.is_fit order.now) (O.prefix_of order.now) R.shown) sources.old }
     requires waits { All (λ s. s.given ≡ false) sources.old }
     ensures ready { All (λ s. R.IsReady s.stream) sources.new }
-    ensures fitting { All (WaitsFitting (O.is_fit order.now) R.shown) sources.new }
+    ensures fitting { All (WaitsFitting (O.is_fit order.now) (O.prefix_of order.now) R.shown) sources.new }
     ensures rows { (told : Option Blocks) (rows : Rows) →
         Merges (O.cmp order.now) (yields (O.cmp order.now) (O.is_fit order.now) R.shown R.left told) sources.old rows →
         Advances rows (is_some result) (shown_at R.shown sources.new result)

@@ -1,6 +1,6 @@
 ghost use Rattle.std.specs.Prelude.{◌≡◌, ◌+◌, ◌≤◌, IfOk, length, vec_len};
 
-use flow_types::span::Span;
+use span_bytes::span::Span;
 use paged_view::record_ref::RecordRef;
 use std::alloc::{AllocError, Global};
 

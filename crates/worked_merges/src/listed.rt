@@ -2,7 +2,7 @@ ghost use Rattle.std.specs.Prelude.{◌≡◌, ◌-◌, [], None, drop, length, 
 
 use flow_outside::failure::StreamFault;
 use flow_outside::spill::Spill;
-use flow_types::span::Span;
+use span_bytes::span::Span;
 use paged_view::record_ref::RecordRef;
 use paged_view::share::Share;
 use paged_view::stream::RecordStream;

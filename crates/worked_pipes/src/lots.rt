@@ -5,7 +5,7 @@ ghost use Rattle.worked_lots.specs.Worked.{CanAppend, CanRewind, Moves, ReadsOn}
 
 use flow_outside::failure::StreamFault;
 use flow_outside::spill::Spill;
-use flow_types::span::Span;
+use span_bytes::span::Span;
 use lot_store::lot::Lot;
 use paged_view::record_ref::RecordRef;
 use paged_view::stream::RecordStream;

@@ -3,7 +3,7 @@ use Rattle.std.specs.List.{flat_map}
 use Rattle.flow_types.specs.Tuples.{Tuple, field}
 use Rattle.flow_types.specs.Records.{tuple_of}
 use Rattle.normal_key.specs.NormalForms.{normal_form, directed_form}
-use Rattle.normal_key.proofs.DecideLemmas.{plain_turned}
+use Rattle.normal_key.proofs.TurnedLemmas.{plain_turned}
 use Rattle.normal_key.proofs.WrittenLemmas.{adds_next, adds_same}
 use Rattle.normal_key.proofs.FieldLemmas.{length-tuple_of, whole_form_more, whole_form_all}
 use Rattle.normal_key.proofs.write.write_whole.Goals as goal

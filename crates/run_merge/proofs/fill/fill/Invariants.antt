@@ -8,7 +8,7 @@ use Rattle.run_merge.proofs.fill.fill.Given as goal
 abbrev pub invariant-loop-at : goal.invariant-loop-at
 invariant-loop-at g l = record {
   ready : All {X = Source g.row.R.Denot} (λ s. g.R.RecordStream.IsReady s.stream) l.sources;
-  fitting : All (WaitsFitting (g.O.RecordOrder.is_fit l.order) g.R.RecordStream.shown) l.sources;
+  fitting : All (WaitsFitting (g.O.RecordOrder.is_fit l.order) (g.O.RecordOrder.prefix_of l.order) g.R.RecordStream.shown) l.sources;
   known : KnowsRows (g.D.Spill.told l.disk) (Merges (g.O.RecordOrder.cmp l.order) (yields (g.O.RecordOrder.cmp l.order) (g.O.RecordOrder.is_fit l.order) g.R.RecordStream.shown g.R.RecordStream.left (g.D.Spill.told l.disk)) l.sources);
   waits : (i : ℕ) (d : Source g.row.R.Denot) → i < l.at → (slice_index_or l.sources i d).given ≡ false;
   rows : (rows : Rows) → Merges (g.O.RecordOrder.cmp l.order) (yields (g.O.RecordOrder.cmp l.order) (g.O.RecordOrder.is_fit l.order) g.R.RecordStream.shown g.R.RecordStream.left (g.D.Spill.told l.fn.disk)) l.fn.sources rows

@@ -13,7 +13,7 @@ returns-clause-ready g c =
 
 pub returns-clause-fitting : goal.returns-clause-fitting
 returns-clause-fitting g c =
-    all_with c.args.sources.now c.fill_place.new.sources c.args.at c.requires.there c.fill_place.ensures.count c.fill_place.ensures.same (WaitsFitting (g.O.RecordOrder.is_fit c.args.order.now) g.R.RecordStream.shown) c.requires.fitting c.fill_place.ensures.fitting
+    all_with c.args.sources.now c.fill_place.new.sources c.args.at c.requires.there c.fill_place.ensures.count c.fill_place.ensures.same (WaitsFitting (g.O.RecordOrder.is_fit c.args.order.now) (g.O.RecordOrder.prefix_of c.args.order.now) g.R.RecordStream.shown) c.requires.fitting c.fill_place.ensures.fitting
 
 pub returns-clause-rows : goal.returns-clause-rows
 returns-clause-rows g c =

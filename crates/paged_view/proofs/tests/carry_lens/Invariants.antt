@@ -1,5 +1,0 @@
-use Rattle.std.proofs.Common.{length, ◌<◌, ◌^◌, All}
-use Rattle.paged_view.proofs.tests.carry_lens.Given as goal
-
-abbrev pub invariant-loop-n : goal.invariant-loop-n
-invariant-loop-n g l = All (λ row. length row.now < 2 ^ 32) l.rows.items
