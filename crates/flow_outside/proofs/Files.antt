@@ -4,7 +4,17 @@ use Rattle.std.proofs.lemmas.List.{take-append-drop}
 use Rattle.std.proofs.Math.Seq.{take-append_seam}
 use Rattle.flow_outside.specs.Told.{IfTold}
 use Rattle.flow_outside.specs.Readers.{Readers, OthersStand, Starts, GivesNext, GoesOn, left_of, behind}
-use Rattle.flow_outside.specs.Files.{LeavesAtMostOne}
+use Rattle.std.specs.Prelude.{IsSomeAnd}
+use Rattle.flow_outside.specs.Files.{Files, bytes_of, IsAbsent, IfFileTold, LeavesAtMostOne}
+
+of_there : (bytes : Option (List ℕ)) (p : List ℕ → Type 0) → (bytes ≡ None → ⊥) → IfTold bytes p → IsSomeAnd bytes p
+of_there None p there claim = absurd (there refl)
+of_there (Some bytes) p there claim = claim
+
+-- What is claimed of the bytes of a file that is there.
+pub file_told : (files : Option Files) (name : List ℕ) (p : List ℕ → Type 0) → (IsAbsent files name → ⊥) → IfTold (bytes_of files name) p → IfFileTold files name p
+file_told None name p there claim = tt
+file_told (Some files) name p there claim = of_there (files name) p there claim
 
 -- The bytes that were given and those that are left are the file's.
 abbrev pub Splits : (told left : Option (List ℕ)) → (bytes : List ℕ) → Type 0

@@ -1,4 +1,4 @@
-use Rattle.std.specs.Prelude.{◌≡◌, ◌≢◌, ◌↔◌, ℕ, ◌+◌, ◌<◌, ◌≤◌, List, [], length, take, drop, Option, Some, None, option_map}
+use Rattle.std.specs.Prelude.{◌≡◌, ◌≢◌, ◌↔◌, ℕ, ◌+◌, ◌<◌, ◌≤◌, List, [], length, take, drop, Option, Some, None, option_map, is_some}
 
 -- A living reader of a file: the file's name and, where told, the bytes that it has left.
 pub record Reading : Type 0 where
@@ -51,7 +51,8 @@ pub record GoesOn (old new : Option Reading) (living_old living_new count : ℕ)
   pub ended : count ≡ 0 → (new ≡ None) × (living_new + 1 ≡ living_old)
   pub lives : 0 < count → (new ≡ behind old count) × (living_new ≡ living_old)
 
--- After a failed read the reader lives under its name, and its place is open.
+-- After a failed read the reader lives under its name, and its place is open; what it has left is told where it was.
 pub record LosesPlace (old new : Option Reading) : Type 0 where
   pub left : Option (List ℕ)
+  pub told : is_some left ≡ is_some (left_of old)
   pub lives : new ≡ Some (record { name = name_of old; left = left })

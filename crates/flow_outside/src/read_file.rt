@@ -1,7 +1,6 @@
 ghost use Rattle.std.specs.Prelude.{◌≡◌, ℕ, ◌<◌, ◌≤◌, List, Err, IfOk, OnOk, OnErr, length};
 ghost use Rattle.flow_outside.specs.Causes.{Rose};
-ghost use Rattle.flow_outside.specs.Told.{IfTold};
-ghost use Rattle.flow_outside.specs.Files.{ReadsAll, LeavesAtMostOne};
+ghost use Rattle.flow_outside.specs.Files.{IfFileTold, ReadsAll, LeavesAtMostOne};
 
 use crate::failure::Failed;
 use crate::shelf::Shelf;
@@ -49,6 +48,9 @@ impl From<AllocError> for FileFault {
 /// up once more than `limit` bytes were read; at most one piece is read past the limit. A failed
 /// read is never taken for the end.
 ///
+/// Where the shelf tells that no file has the name, the answer is `Read`, or want of memory: `whole` and
+/// `too_long` both say that the file is there.
+///
 /// The time is proportional to the bytes that are read.
 pub fn read_file<S: Shelf>(
     shelf: &mut S,
@@ -59,7 +61,7 @@ pub fn read_file<S: Shelf>(
     requires { S.living shelf.old < 80 }
     ensures tells { S.told shelf.new ≡ S.told shelf.old }
     ensures later { (k : List ℕ) → S.faults_at shelf.old k ≤ S.faults_at shelf.new k }
-    ensures whole { IfOk result (λ bytes. ReadsAll (S.told shelf.old name.now) limit bytes.items) }
+    ensures whole { IfOk result (λ bytes. ReadsAll (S.told shelf.old) name.now limit bytes.items) }
     ensures ended { OnOk result
         ((S.readers shelf.new ≡ S.readers shelf.old) × (S.living shelf.new ≡ S.living shelf.old)) }
     ensures left { OnErr result (LeavesAtMostOne (S.readers shelf.old) (S.readers shelf.new)
@@ -67,7 +69,7 @@ pub fn read_file<S: Shelf>(
     ensures cause { result ≡ Err FileFault.Read
         → Rose (S.faults_at shelf.old name.now) (S.faults_at shelf.new name.now) }
     ensures too_long { result ≡ Err FileFault.TooLong
-        → IfTold (S.told shelf.old name.now) (λ all. limit < length all) }
+        → IfFileTold (S.told shelf.old) name.now (λ all. limit < length all) }
 {
     let mut piece = vec![in alloc; 0u8; PIECE]?;
     let mut bytes = Vec::new(alloc);

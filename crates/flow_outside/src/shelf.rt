@@ -1,6 +1,7 @@
-ghost use Rattle.std.specs.Prelude.{◌≡◌, ℕ, ◌+◌, ◌<◌, ◌≤◌, List, Option, IfOk, OnErr, length};
+ghost use Rattle.std.specs.Prelude.{◌≡◌, ℕ, ◌+◌, ◌<◌, ◌≤◌, List, Option, IfOk, OnOk, OnErr, length};
 ghost use Rattle.flow_outside.specs.Causes.{HasCause};
 ghost use Rattle.flow_outside.specs.Told.{IfTold};
+ghost use Rattle.flow_outside.specs.Files.{Files, bytes_of, IsAbsent};
 ghost use Rattle.flow_outside.specs.Readers.{Readers, Lives, OthersStand, Starts, GivesNext, GoesOn, LosesPlace, name_of, left_of};
 
 use crate::failure::Failed;
@@ -8,11 +9,11 @@ use crate::failure::Failed;
 /// Files to read, each under a name, through readers that are known by number. At most 80 readers
 /// live at once.
 ///
-/// No call changes the bytes of a name, where they are told. A count of faults is kept for each
-/// name; it never falls.
+/// A shelf that tells says of each name that its file has these bytes, or that no file has the name.
+/// No call changes what is told. A count of faults is kept for each name; it never falls.
 pub trait Shelf: Drop {
-    /// The bytes of each name, where told.
-    ghost told: { Self → List ℕ → Option (List ℕ) };
+    /// The files, where told.
+    ghost told: { Self → Option Files };
 
     /// The reader of each number, where one lives.
     ghost readers: { Self → Readers };
@@ -23,15 +24,17 @@ pub trait Shelf: Drop {
     /// The count of faults at each name.
     ghost faults_at: { Self → List ℕ → ℕ };
 
-    /// Starts a reader at the first byte of `name`, and gives its number.
+    /// Starts a reader at the first byte of `name`, and gives its number. Where the shelf tells, it
+    /// fails at a name that no file has, and what a reader has left is told.
     fn open(&mut self, name: &str) -> Result<u32, Failed>
         requires { living self.old < 80 }
         ensures tells { told self.new ≡ told self.old }
         ensures later { (k : List ℕ) → faults_at self.old k ≤ faults_at self.new k }
         ensures cause { HasCause (faults_at self.old name.now) (faults_at self.new name.now) result }
         ensures started { IfOk result
-            (λ id. Starts (readers self.old) (readers self.new) name.now (told self.old name.now) id
+            (λ id. Starts (readers self.old) (readers self.new) name.now (bytes_of (told self.old) name.now) id
             × (living self.new ≡ living self.old + 1)) }
+        ensures absent { OnOk result (¬ IsAbsent (told self.old) name.now) }
         ensures refused { OnErr result
             ((readers self.new ≡ readers self.old) × (living self.new ≡ living self.old)) };
 

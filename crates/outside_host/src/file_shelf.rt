@@ -35,7 +35,7 @@ impl<'a, R: Files + Drop> FileShelf<'a, R> {
 }
 
 impl<'a, R: Files + Drop> Shelf for FileShelf<'a, R> {
-    ghost told = { λ _ _. None };
+    ghost told = { λ _. None };
 
     ghost readers = { λ shelf. readers_in shelf.slots.items };
 

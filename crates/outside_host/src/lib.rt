@@ -8,10 +8,9 @@
 pub mod command_line;
 pub mod file_shelf;
 pub mod file_spill;
+pub mod print_sink;
 mod slots;
 mod spill_file;
-pub mod stderr_sink;
-pub mod stdout_sink;
 #[cfg(test)]
 mod tests;
 mod write_some;

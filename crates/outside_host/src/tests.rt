@@ -2,8 +2,7 @@ ghost use Rattle.std.specs.Prelude.{◌≡◌};
 
 use crate::file_shelf::FileShelf;
 use crate::file_spill::FileSpill;
-use crate::stderr_sink::StderrSink;
-use crate::stdout_sink::StdoutSink;
+use crate::print_sink::{StderrSink, StdoutSink};
 use flow_outside::read_file::{FileFault, read_file};
 use flow_outside::shelf::Shelf;
 use flow_outside::sink::Sink;

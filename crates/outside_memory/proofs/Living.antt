@@ -28,4 +28,4 @@ starts files places started name file id found within free change =
 pub loses_place : (files : List File) (place : Option Place) → reading_at files place ≢ None → LosesPlace (reading_at files place) (reading_at files place)
 loses_place files None lives = absurd (lives refl)
 loses_place files (Some place) lives =
-    record { left = Some (drop place.at (bytes_in files place.file)); lives = refl }
+    record { left = Some (drop place.at (bytes_in files place.file)); told = refl; lives = refl }

@@ -29,6 +29,6 @@ name_in files place = name_or_none (slice_get files place)
 abbrev pub bytes_in : List File → ℕ → List ℕ
 bytes_in files place = bytes_or_none (slice_get files place)
 
--- What is told of a name: the bytes of the first file of that name.
+-- What is told of a name: the bytes of the first file of that name, and that there is none of an unknown name.
 abbrev pub told_in : List File → List ℕ → Option (List ℕ)
 told_in files name = option_map (bytes_in files) (file_at files name)

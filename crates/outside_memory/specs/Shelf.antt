@@ -1,4 +1,5 @@
-use Rattle.std.specs.Prelude.{ℕ, List, Option}
+use Rattle.std.specs.Prelude.{ℕ, List, Option, Some}
+use Rattle.flow_outside.specs.Files.{Files}
 use Rattle.flow_outside.specs.Readers.{Readers}
 use Rattle.flow_outside.specs.Slots.{living_in}
 use Rattle.outside_memory.specs.Counts.{count_in}
@@ -6,9 +7,9 @@ use Rattle.outside_memory.specs.Files.{file_at, told_in}
 use Rattle.outside_memory.specs.Places.{readers_in}
 use Rattle.outside_memory.specs.declared.mem_shelf.MemShelf.{MemShelf}
 
--- The bytes of each name: those of the first file of that name.
-abbrev pub told_by : MemShelf → List ℕ → Option (List ℕ)
-told_by shelf = told_in shelf.files.items
+-- The files: of each name the bytes of the first file of that name, and of an unknown name none.
+abbrev pub told_by : MemShelf → Option Files
+told_by shelf = Some (told_in shelf.files.items)
 
 -- The reader of each number.
 abbrev pub readers_of : MemShelf → Readers

@@ -1,6 +1,7 @@
-ghost use Rattle.std.specs.Prelude.{◌≡◌, ◌≢◌, ◌↔◌, ◌⊎◌, ℕ, ◌+◌, ◌<◌, ◌≤◌, List, None, IfOk, OnErr, IsErr, length, min, vec_len};
+ghost use Rattle.std.specs.Prelude.{◌≡◌, ◌≢◌, ◌↔◌, ◌⊎◌, ℕ, ◌+◌, ◌<◌, ◌≤◌, List, None, Some, IfOk, OnOk, OnErr, IsErr, length, min, vec_len};
 ghost use Rattle.flow_outside.specs.Causes.{HasCause};
 ghost use Rattle.flow_outside.specs.Told.{IfTold};
+ghost use Rattle.flow_outside.specs.Files.{bytes_of, IsAbsent};
 ghost use Rattle.flow_outside.specs.Readers.{Lives, OthersStand, Starts, GivesNext, GoesOn, LosesPlace, name_of, left_of};
 ghost use Rattle.outside_memory.specs.Files.{told_in};
 
@@ -14,7 +15,7 @@ use flow_outside::shelf::Shelf;
 use flow_outside::slots::READERS;
 use std::alloc::Global;
 
-/// Files in memory. They tell their bytes.
+/// Files in memory. They tell their bytes, and of an unknown name that no file has it.
 ///
 /// The listed calls fail, and so does an `open` of an unknown name. A failed call raises the count
 /// of its own name and of no other; all unknown names share one count. Of two files with one name
@@ -37,7 +38,7 @@ impl MemShelf {
         files: Vec<(FileName, Vec<u8>)>,
         failing: Vec<u64>,
     ) -> Result<MemShelf, Memory>
-        ensures tells { IfOk result (λ shelf. ⟦<MemShelf as Shelf>⟧.told shelf ≡ told_in files.items) }
+        ensures tells { IfOk result (λ shelf. ⟦<MemShelf as Shelf>⟧.told shelf ≡ Some (told_in files.items)) }
         ensures none_lives { IfOk result (λ shelf. (id : ℕ) → ⟦<MemShelf as Shelf>⟧.readers shelf id ≡ None) }
         ensures living { IfOk result (λ shelf. ⟦<MemShelf as Shelf>⟧.living shelf ≡ 0) }
         ensures no_fault { IfOk result (λ shelf. (name : List ℕ) → ⟦<MemShelf as Shelf>⟧.faults_at shelf name ≡ 0) }
@@ -72,8 +73,9 @@ impl Shelf for MemShelf {
         ensures later { (k : List ℕ) → faults_of self.old k ≤ faults_of self.new k }
         ensures cause { HasCause (faults_of self.old name.now) (faults_of self.new name.now) result }
         ensures started { IfOk result
-            (λ id. Starts (readers_of self.old) (readers_of self.new) name.now (told_by self.old name.now) id
+            (λ id. Starts (readers_of self.old) (readers_of self.new) name.now (bytes_of (told_by self.old) name.now) id
             × (living_of self.new ≡ living_of self.old + 1)) }
+        ensures absent { OnOk result (¬ IsAbsent (told_by self.old) name.now) }
         ensures refused { OnErr result
             ((readers_of self.new ≡ readers_of self.old) × (living_of self.new ≡ living_of self.old)) }
         ensures called { HasCalled self.old.calls self.new.calls }

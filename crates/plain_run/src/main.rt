@@ -18,8 +18,7 @@ use flow_outside::words::Words;
 use job_words::program::Program;
 use outside_host::command_line::words_of;
 use outside_host::file_shelf::FileShelf;
-use outside_host::stderr_sink::StderrSink;
-use outside_host::stdout_sink::StdoutSink;
+use outside_host::print_sink::{StderrSink, StdoutSink};
 use std::alloc::Global;
 use std::process::ExitCode;
 

@@ -1,5 +1,5 @@
 use Rattle.std.proofs.Common.{rules, refl, ap, ◌∙◌, ◌++◌, ◌<◌, take}
-use Rattle.flow_outside.proofs.Files.{midway_start, midway_more, midway_whole, midway_ended, midway_left, midway_longer, written_back}
+use Rattle.flow_outside.proofs.Files.{file_told, midway_start, midway_more, midway_whole, midway_ended, midway_left, midway_longer, written_back}
 use Rattle.flow_outside.proofs.read_file.read_file.Goals as goal
 
 pub pieces-init : goal.pieces-init
@@ -7,6 +7,7 @@ pieces-init g c = record {
   room = search rules;
   tells = search rules;
   later = search rules;
+  there = c.in_ok-id.ensures.absent;
   midway = midway_start _ _ _ _ _ _ _ _ c.in_ok-id.ensures.started.0 c.in_ok-id.ensures.started.1 (search rules);
 }
 
@@ -17,7 +18,7 @@ returns-in_err-count-clause-left g c =
 
 pub returns-then-count-eq0-clause-whole : goal.returns-then-count-eq0-clause-whole
 returns-then-count-eq0-clause-whole g c = record {
-  whole = midway_whole _ _ _ _ _ _ _ _ _ _ c.pieces.invariant.midway c.in_ok-count.ensures.given (search rules);
+  whole = file_told _ _ _ c.pieces.invariant.there (midway_whole _ _ _ _ _ _ _ _ _ _ c.pieces.invariant.midway c.in_ok-count.ensures.given (search rules));
   within = search rules;
 }
 
@@ -29,6 +30,7 @@ pieces-preserved g c = record {
   room = search rules;
   tells = search rules;
   later = λ k. search rules;
+  there = c.pieces.invariant.there;
   midway = midway_more _ _ _ _ _ _ _ _ _ _ _ _ _ c.pieces.invariant.midway c.read.ensures.others c.in_ok-count.ensures.given c.in_ok-count.ensures.goes_on (search rules) (c.in_ok-extend_from_slice.ensures.items ∙ ap (λ piece. c.pieces.bytes.items ++ piece) (ap (take c.in_ok-count.count) (c.deref.ensures.value ∙ written_back _ _ _ (search rules))));
 }
 
@@ -42,4 +44,4 @@ pub returns-clause-left : goal.returns-clause-left
 returns-clause-left g c = midway_left _ _ _ _ _ _ _ _ _ _ c.pieces.invariant.midway (λ _ _. refl) refl
 
 pub returns-clause-too_long : goal.returns-clause-too_long
-returns-clause-too_long g c = λ _. midway_longer _ _ _ _ _ _ _ _ _ c.pieces.invariant.midway (search rules)
+returns-clause-too_long g c = λ _. file_told _ _ _ c.pieces.invariant.there (midway_longer _ _ _ _ _ _ _ _ _ c.pieces.invariant.midway (search rules))

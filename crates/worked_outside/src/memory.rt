@@ -1,12 +1,12 @@
-use crate::file_name::FileName;
-use crate::mem_shelf::MemShelf;
-use crate::mem_sink::MemSink;
-use crate::zero_spill::ZeroSpill;
 use flow_outside::read_file::{FileFault, read_file};
 use flow_outside::shelf::Shelf;
 use flow_outside::sink::Sink;
 use flow_outside::spill::Spill;
 use flow_outside::write_all::write_all;
+use outside_memory::file_name::FileName;
+use outside_memory::mem_shelf::MemShelf;
+use outside_memory::mem_sink::MemSink;
+use outside_memory::zero_spill::ZeroSpill;
 use std::alloc::{AllocError, Global};
 use std::test::Fail;
 
