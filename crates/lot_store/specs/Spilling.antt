@@ -5,6 +5,7 @@ use Rattle.flow_outside.specs.Causes.{Rose}
 use Rattle.flow_outside.specs.declared.failure.StreamFault.{StreamFault}
 use Rattle.flow_outside.specs.declared.failure.StreamFault.TheVariants as fault
 use Rattle.segment_core.specs.Segments.{SegmentView, count_other_size}
+use Rattle.spool.specs.Reading.{IsDamagedAt}
 use Rattle.spool.specs.Runs.{HasBlock, IsRun, IsWritten, pages_at}
 use Rattle.spool.specs.declared.run.Run.{Run}
 use Rattle.spool.specs.declared.writer.RunWriter.{RunWriter}
@@ -69,3 +70,8 @@ FreesBlocks run old new = (block : ℕ) → OwnsBlock old run block → new bloc
 -- A run stands, and its pages have as many bytes as the segments of a purse, all of which have one size.
 abbrev pub StandsAlone : Run → (purse : List SegmentView) → Blocks → Type 0
 StandsAlone run purse blocks = (size : ℕ) × (count_other_size size purse ≡ 0) × IsRun blocks size run
+
+-- A run is damaged at this block, by what was read there.
+abbrev pub IsDamagedIn : Option RunWriter → (block : ℕ) → Type 0
+IsDamagedIn None block = ⊥
+IsDamagedIn (Some run) block = (page : List ℕ) × IsDamagedAt (record { first = run.first; pages = run.pages }) block page

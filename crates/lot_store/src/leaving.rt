@@ -1,10 +1,10 @@
-ghost use Rattle.std.specs.Prelude.{◌≡◌, ◌+◌, ◌<◌, ◌≤◌, [], None, Ok, OnOk, IsSome, length};
+ghost use Rattle.std.specs.Prelude.{◌≡◌, ◌+◌, ◌<◌, ◌≤◌, ℕ, [], None, Ok, IsErrOf, OnOk, IsSome, length};
 ghost use Rattle.flow_outside.specs.Blocks.{BothTold};
 ghost use Rattle.flow_outside.specs.Causes.{HasStreamCause};
 ghost use Rattle.lot_store.specs.LotKeeping.{AddsText, Keeps, KeepsOthers, KeepsRows, MovesSegments};
 ghost use Rattle.lot_store.specs.LotCalls.{spilled_count};
 ghost use Rattle.lot_store.specs.Lots.{IsSound, held, pages_of};
-ghost use Rattle.lot_store.specs.Spilling.{FreesBlocks, HasWriteCause};
+ghost use Rattle.lot_store.specs.Spilling.{FreesBlocks, HasWriteCause, IsDamagedIn};
 ghost use Rattle.page_feed.specs.Feeds.{lent, stopped};
 
 use crate::lot::Lot;
@@ -60,6 +60,7 @@ impl Lot {
         ensures room { purse.new.room ≡ purse.old.room }
         ensures own { self.new.stored.room ≡ self.old.stored.room }
         ensures rest { self.new.feed ≡ stopped self.old.feed.room self.old.feed.reach }
+        ensures damaged { (block : ℕ) → IsErrOf result (StreamFault.Damaged block) → IsDamagedIn self.old.stored.run block }
         ensures seat { self.old.feed.room ≡ self.old.stored.room }
         ensures quiet { spilled_count self.old.stored.run ≡ 0 → (disk.new ≡ disk.old) × (result ≡ Ok tt) }
     {

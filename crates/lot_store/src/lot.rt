@@ -1,9 +1,9 @@
-ghost use Rattle.std.specs.Prelude.{◌≡◌, ℕ, ◌+◌, ◌^◌, ◌<◌, ◌≤◌, List, [], ◌∷◌, true, Ok, IfOk, OnOk, IsSome, is_ok, length};
+ghost use Rattle.std.specs.Prelude.{◌≡◌, ℕ, ◌+◌, ◌^◌, ◌<◌, ◌≤◌, List, [], ◌∷◌, true, Ok, IfOk, IsErrOf, OnOk, IsSome, is_ok, length};
 ghost use Rattle.flow_outside.specs.Blocks.{BothTold};
 ghost use Rattle.flow_outside.specs.Causes.{HasStreamCause};
 ghost use Rattle.flow_outside.specs.Told.{IfTold};
 ghost use Rattle.lot_store.specs.LotCalls.{AppendsPage, AppendsRow, GetsShorter, HasReadCause, IsAtFirst, IsShowing, IsSupplied, KeepsContents, LeavesDisk, Reads, Writes, spilled_count};
-ghost use Rattle.lot_store.specs.Spilling.{FreesBlocks, HasWriteCause};
+ghost use Rattle.lot_store.specs.Spilling.{FreesBlocks, HasWriteCause, IsDamagedIn};
 ghost use Rattle.lot_store.specs.Storage.{IsReady, Preserves, alone, with_segment};
 ghost use Rattle.paged_view.specs.Streams.{Advances, KnowsRows};
 ghost use Rattle.lot_store.specs.Lots.{HoldsRows, IsAtRest, IsLeft, IsRewound, empty, held, pages_of};
@@ -166,6 +166,7 @@ impl Lot {
         ensures preserves { Preserves (alone (D.told disk.old) purse.old self.old)
             (alone (D.told disk.new) purse.new self.new) (0 ∷ []) (0 ∷ []) (is_ok result) }
         ensures cause { HasStreamCause (D.fault_count disk.old) (D.fault_count disk.new) (D.told disk.old) result }
+        ensures damaged { (block : ℕ) → IsErrOf result (StreamFault.Damaged block) → IsDamagedIn self.old.stored.run block }
         ensures quiet { spilled_count self.old.stored.run ≡ 0 → (disk.new ≡ disk.old) × (result ≡ Ok tt) }
     {
         self.give_up(purse, disk)

@@ -3,3 +3,4 @@ pub mod FreeLemmas
 pub mod HeaderLemmas
 pub mod PushLemmas
 pub mod ReadLemmas
+pub mod DamageLemmas

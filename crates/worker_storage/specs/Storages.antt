@@ -8,7 +8,10 @@ use Rattle.flow_types.specs.Types.{Fields}
 use Rattle.lot_store.specs.Lots.{LotView, held}
 use Rattle.lot_store.specs.Rows.{rows_of}
 use Rattle.lot_store.specs.Storage.{IsReadyAt, Preserves, StorageView, lot_at, owners}
+use Rattle.flow_types.specs.Records.{form, tuple_of}
 use Rattle.row_pipe.specs.Pipes.{HoldsTuples}
+use Rattle.row_pipe.specs.Works.{piped}
+use Rattle.row_pipe.specs.declared.work.Work.{Work}
 
 -- A storage is seen as the size of its segments, its purse, its disk, and its lots by their places.
 pub record Storage (D : Type 0) : Type 0 where
@@ -54,3 +57,7 @@ HoldsSome fields lot blocks = (tuples : Tuples) × HoldsTuples fields blocks lot
 -- No block that was one of the lots' is live.
 abbrev pub FreesAll : (lots : List LotView) → (old new : Blocks) → Type 0
 FreesAll lots old new = (block : ℕ) → 0 < owners old block lots → new block ≡ None
+
+-- the records of the rows that are given of the rows that records are read as
+abbrev pub given : Fields → Work → List (List ℕ) → List (List ℕ)
+given fields work records = map form (piped work (map (tuple_of fields) records))

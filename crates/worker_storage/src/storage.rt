@@ -1,17 +1,19 @@
-ghost use Rattle.std.specs.Prelude.{◌≡◌, ◌≢◌, ℕ, ◌+◌, ◌<◌, ◌≤◌, ◌^◌, List, [], ◌∷◌, ◌++◌, All, true, None, Some, IfOk, OnOk, is_ok, length, map, slice_set};
+ghost use Rattle.std.specs.Prelude.{◌≡◌, ◌≢◌, ℕ, ◌+◌, ◌<◌, ◌≤◌, ◌^◌, List, [], ◌∷◌, ◌++◌, All, true, None, Some, IfOk, OnOk, is_ok, length, slice_set};
+ghost use Rattle.std.specs.List.{swap};
 ghost use Rattle.flow_outside.specs.Blocks.{BothTold};
 ghost use Rattle.flow_outside.specs.Causes.{HasStreamCause};
 ghost use Rattle.flow_outside.specs.Told.{IfTold};
-ghost use Rattle.flow_types.specs.Records.{form, tuple_of};
 ghost use Rattle.lot_store.specs.LotCalls.{AppendsPage, IsSupplied};
 ghost use Rattle.lot_store.specs.Lots.{LotView, empty, held};
-ghost use Rattle.lot_store.specs.Rows.{Gains, IsWhole, rows_in};
+ghost use Rattle.lot_store.specs.Rows.{Gains, rows_of};
 ghost use Rattle.lot_store.specs.Spilling.{HasWriteCause};
-ghost use Rattle.lot_store.specs.Storage.{IsReadyAt, Preserves, held_count, lot_at, with_segment};
-ghost use Rattle.row_pipe.specs.Pipes.{GivesRows, GivesWithin, HasPassCause, RestsAfter};
-ghost use Rattle.worker_storage.specs.Storages.{FreesAll, HoldsSome, IsShort, KeepsStorage, MayRead, Storage, all_places, view_of, with_lot};
+ghost use Rattle.lot_store.specs.Storage.{IsReadyAt, held_count, lot_at, with_segment};
+ghost use Rattle.row_pipe.specs.Pipes.{GivesWithin, HasPassCause, RestsAfter};
+ghost use Rattle.worker_storage.specs.Storages.{FreesAll, HoldsSome, IsShort, KeepsStorage, MayRead, all_places, given, view_of, with_lot};
 
-use crate::places::{append_at, append_page_at, drop_at, first_fault, pipe_at, rest_at};
+use crate::places::{
+    append_at, append_page_at, drop_at, exchange_at, first_fault, pipe_at, rest_at, swap_at,
+};
 use expr_core::scratch::Scratch;
 use flow_outside::failure::StreamFault;
 use flow_outside::spill::Spill;
@@ -142,5 +144,80 @@ impl<D: Spill> WorkerStorage<D> {
             (D.told self.old.disk) result }
     {
         drop_at(&mut self.lots, at, &mut self.purse, &mut self.disk)
+    }
+
+    /// Empties all lots, the first first. Their segments go to the purse, whatever the answer, which is the first
+    /// fault: after it the lots behind are emptied all the same. Where it is Ok, no block that was a lot's is live.
+    pub fn drop_all(&mut self) -> Result<(), StreamFault>
+        requires { 0 < length self.old.purse.pages }
+        ensures empty { (i : ℕ) (d : LotView) → i < length self.old.lots → lot_at self.new.lots i d
+            ≡ empty (lot_at self.old.lots i d).stored.room (lot_at self.old.lots i d).feed.reach }
+        ensures freed { OnOk result (BothTold (D.told self.old.disk) (D.told self.new.disk) (FreesAll self.old.lots)) }
+        ensures keeps { KeepsStorage D.told self.old self.new
+            (all_places (length self.old.lots)) (all_places (length self.old.lots)) (is_ok result) }
+        ensures cause { HasStreamCause (D.fault_count self.old.disk) (D.fault_count self.new.disk)
+            (D.told self.old.disk) result }
+    {
+        let mut answer = Ok(());
+        for at in 0..self.lots.len() {
+            let dropped = self.drop_lot(at);
+            answer = first_fault(answer, dropped);
+        }
+        answer
+    }
+
+    /// Puts the lots at two places each in the place of the other. Both keep as many pages and take records over as
+    /// many.
+    pub fn swap(&mut self, one: usize, other: usize)
+        requires one { one < length self.old.lots }
+        requires other { other < length self.old.lots }
+        requires rooms { (d : LotView) → (lot_at self.old.lots one d).stored.room ≡ (lot_at self.old.lots other d).stored.room }
+        requires reach { (d : LotView) → (lot_at self.old.lots one d).feed.reach ≡ (lot_at self.old.lots other d).feed.reach }
+        ensures swapped { self.new ≡ record self.old { lots = swap self.old.lots one other } }
+        ensures keeps { KeepsStorage D.told self.old self.new (one ∷ other ∷ []) (one ∷ other ∷ []) true }
+    {
+        swap_at(&mut self.lots, one, other);
+    }
+
+    /// Puts a lot from outside in the place of one, which it gives. The lot from outside stands together with those
+    /// here, so that none of its blocks is one of theirs; the lot that goes then does.
+    pub fn exchange(&mut self, at: usize, lot: &mut Lot)
+        requires there { at < length self.old.lots }
+        requires stands { IsReadyAt self.old.size (with_lot lot.old (view_of D.told self.old)) }
+        ensures given { (d : LotView) → lot.new ≡ lot_at self.old.lots at d }
+        ensures placed { self.new ≡ record self.old { lots = slice_set self.old.lots at lot.old } }
+        ensures stands { IsReadyAt self.new.size (with_lot lot.new (view_of D.told self.new)) }
+    {
+        exchange_at(&mut self.lots, at, lot);
+    }
+
+    /// Adds the rows that are given of a lot's rows behind those of another lot, as `pipe` does.
+    ///
+    /// `Spill` comes only where the disk's count of faults rose in this call, `Damaged` only over a disk that doesn't
+    /// tell, with the block that was read last.
+    pub fn pipe(
+        &mut self,
+        p: &RowPipe,
+        from: usize,
+        to: usize,
+        s: &mut Scratch,
+    ) -> Result<(), StreamFault>
+        requires there { (from < length self.old.lots) × (to < length self.old.lots) × (from ≢ to) }
+        requires may { (d : LotView) → MayRead self.old.purse (lot_at self.old.lots from d) }
+        requires within { (d : LotView) → GivesWithin p.now.takes p.now.work self.old.size (lot_at self.old.lots to d).feed.reach }
+        requires holds { (d : LotView) → IfTold (D.told self.old.disk) (HoldsSome p.now.takes (lot_at self.old.lots from d)) }
+        ensures rows { (d : LotView) → OnOk result (BothTold (D.told self.old.disk) (D.told self.new.disk)
+            (Gains (lot_at self.old.lots to d) (lot_at self.new.lots to d)
+            (given p.now.takes p.now.work (rows_of (D.told self.old.disk) (lot_at self.old.lots from d))))) }
+        ensures keeps { KeepsStorage D.told self.old self.new (from ∷ to ∷ []) (to ∷ []) true }
+        ensures cause { (d : LotView) → HasPassCause (D.fault_count self.old.disk) (D.fault_count self.new.disk)
+            (D.told self.old.disk) (lot_at self.new.lots from d) result }
+        ensures rests { (d : LotView) → RestsAfter (lot_at self.new.lots from d) (lot_at self.new.lots to d) result }
+    {
+        let mut io = Io {
+            purse: &mut self.purse,
+            disk: &mut self.disk,
+        };
+        pipe_at(p, &mut self.lots, from, to, s, &mut io)
     }
 }

@@ -1,6 +1,9 @@
-use Rattle.std.proofs.Common.{rules, ◌∙◌, None, Ok, ap, subst, length}
+use Rattle.std.proofs.Common.{rules, ◌≡◌, ◌↔◌, ◌∙◌, false, None, Ok, Err, ap, subst, sym, length}
+use Rattle.std.specs.Prelude.{IsErrOf}
+use Rattle.flow_outside.specs.declared.failure.StreamFault.TheVariants as fault
 use Rattle.flow_outside.specs.Blocks.{BothTold, Becomes}
 use Rattle.spool.specs.Reading.{number_at, HasRead}
+use Rattle.spool.proofs.DamageLemmas.{come_on, damaged_at, same_fault}
 use Rattle.spool.proofs.FreeLemmas.{frees_told}
 use Rattle.spool.proofs.discard.discard.Goals as goal
 
@@ -17,4 +20,11 @@ pages-preserved g c =
       later = search rules;
       given = search rules;
       same = search rules;
+      come = come_on c.args.run c.pages.reader c.next.new.self c.next.new.page.bytes c.pages.invariant.come moved;
     }
+
+pub returns-in-Err-clause-damaged : goal.returns-in-Err-clause-damaged
+returns-in-Err-clause-damaged g c = λ block is.
+    let fault_is = same_fault c.in-Err.fault (fault.Damaged block) is in
+    let read_is : IsErrOf c.next.result (fault.Damaged block) = c.in-Err.is ∙ ap Err fault_is in
+    damaged_at c.args.run c.pages.reader c.next.new.self c.next.new.page.bytes c.next.result block c.pages.invariant.come read_is c.next.ensures.end (c.next.ensures.damaged block read_is)

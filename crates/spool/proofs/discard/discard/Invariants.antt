@@ -2,7 +2,7 @@ use Rattle.std.proofs.Common.{◌≡◌, ◌≤◌, length}
 use Rattle.flow_outside.specs.Blocks.{BothTold}
 use Rattle.spool.specs.Changes.{IsBeingFreed}
 use Rattle.spool.specs.Headers.{IsSameSegment}
-use Rattle.spool.specs.Reading.{number_at}
+use Rattle.spool.specs.Reading.{HasComeTo, number_at}
 use Rattle.spool.proofs.discard.discard.Given as goal
 
 abbrev pub invariant-pages : goal.invariant-pages
@@ -12,6 +12,7 @@ invariant-pages g l = record {
   later : g.D.Spill.fault_count l.fn.disk ≤ g.D.Spill.fault_count l.disk;
   given : g.D.Spill.given l.disk ≡ g.D.Spill.given l.fn.disk;
   same : IsSameSegment l.fn.page l.page;
+  come : HasComeTo l.fn.run l.reader;
 }
 
 abbrev pub decreases-pages : goal.decreases-pages
