@@ -1,8 +1,8 @@
-ghost use Rattle.std.specs.Prelude.{◌≡◌, ℕ, ◌+◌, ◌<◌, ◌≤◌, None, length};
+ghost use Rattle.std.specs.Prelude.{◌≡◌, ℕ, ◌+◌, ◌<◌, ◌≤◌, [], ◌∷◌, None, length};
+ghost use Rattle.lot_store.specs.LotCalls.{Writes};
 ghost use Rattle.lot_store.specs.Lots.{empty, held};
 ghost use Rattle.segment_core.specs.Segments.{segment_sum};
 ghost use Rattle.spool.specs.Headers.{IsSameSegment};
-ghost use Rattle.worked_lots.specs.Worked.{Moves, Stands};
 
 use crate::lots::rest_and_read;
 use flow_outside::failure::StreamFault;
@@ -38,11 +38,7 @@ fn add_page<D: Spill>(
     requires short { length used_bytes.now ≤ 4000 }
     requires untold { D.told disk.old ≡ None }
     requires room { length purse.old.pages + length (held lot.old) ≤ purse.old.room }
-    ensures untold { D.told disk.new ≡ None }
-    ensures room { length purse.new.pages + length (held lot.new) ≤ purse.new.room }
-    ensures moves { Moves lot.old lot.new purse.old purse.new }
-    ensures own { (lot.new.stored.room ≡ lot.old.stored.room) × (lot.new.feed.reach ≡ lot.old.feed.reach) }
-    ensures seat { purse.new.room ≡ purse.old.room }
+    ensures { Writes (D.told disk.old) (D.told disk.new) purse.old purse.new lot.old lot.new }
 {
     match purse.take() {
         Some(page) => {
@@ -66,11 +62,7 @@ fn cut<D: Spill>(
     requires short { size ≤ 4000 }
     requires untold { D.told disk.old ≡ None }
     requires room { length purse.old.pages + length (held lot.old) ≤ purse.old.room }
-    ensures untold { D.told disk.new ≡ None }
-    ensures room { length purse.new.pages + length (held lot.new) ≤ purse.new.room }
-    ensures moves { Moves lot.old lot.new purse.old purse.new }
-    ensures own { (lot.new.stored.room ≡ lot.old.stored.room) × (lot.new.feed.reach ≡ lot.old.feed.reach) }
-    ensures seat { purse.new.room ≡ purse.old.room }
+    ensures { Writes (D.told disk.old) (D.told disk.new) purse.old purse.new lot.old lot.new }
 {
     let mut at = 0;
     'cuts: while at < stream.len() {
@@ -122,10 +114,7 @@ fn cut_and_read<D: Spill>(
     requires untold { D.told disk.old ≡ None }
     requires room { length purse.old.pages + length (held lot.old) ≤ purse.old.room }
     requires enough { lot.old.stored.room + lot.old.feed.reach ≤ length purse.old.pages + length (held lot.old) }
-    ensures stands { Stands (D.told disk.new) lot.new purse.new }
-    ensures room { length purse.new.pages + length (held lot.new) ≤ purse.new.room }
-    ensures moves { Moves lot.old lot.new purse.old purse.new }
-    ensures seat { purse.new.room ≡ purse.old.room }
+    ensures { Writes (D.told disk.old) (D.told disk.new) purse.old purse.new lot.old lot.new }
 {
     match cut(lot, stream, 1_001, purse, disk) {
         Ok(()) => rest_and_read(lot, bytes, len, purse, disk),

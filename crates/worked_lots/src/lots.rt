@@ -1,8 +1,10 @@
-ghost use Rattle.std.specs.Prelude.{◌≡◌, ℕ, ◌+◌, ◌<◌, ◌≤◌, [], None, OnOk, length};
+ghost use Rattle.std.specs.Prelude.{◌≡◌, ℕ, ◌+◌, ◌<◌, ◌≤◌, [], ◌∷◌, None, OnOk, length};
+ghost use Rattle.lot_store.specs.LotCalls.{Reads, Writes};
 ghost use Rattle.lot_store.specs.Lots.{IsLeft, IsRewound, empty, held};
+ghost use Rattle.lot_store.specs.Storage.{IsReady, alone};
 ghost use Rattle.paged_view.specs.Streams.{KnowsRows};
 ghost use Rattle.segment_core.specs.Segments.{count_other_size, segment_sum};
-ghost use Rattle.worked_lots.specs.Worked.{CanAppend, CanRewind, Holds, Moves, ReadsOn, Stands};
+ghost use Rattle.worked_lots.specs.Worked.{CanAdd, CanRead, ReadsOn};
 
 use crate::cuts::with_cuts;
 use crate::rows::{is_row, row_of};
@@ -22,18 +24,9 @@ fn add<D: Spill>(
     disk: &mut D,
 ) -> Result<(), StreamFault>
     requires short { length row.now ≤ 12000 }
-    requires reach { 5 ≤ lot.old.feed.reach }
-    requires stands { Stands (D.told disk.old) lot.old purse.old }
-    requires holds { Holds (D.told disk.old) lot.old }
-    requires room { length purse.old.pages + length (held lot.old) ≤ purse.old.room }
-    requires supply { CanAppend lot.old purse.old }
-    ensures stands { Stands (D.told disk.new) lot.new purse.new }
-    ensures holds { OnOk result (Holds (D.told disk.new) lot.new) }
-    ensures room { length purse.new.pages + length (held lot.new) ≤ purse.new.room }
-    ensures supply { OnOk result (CanAppend lot.new purse.new) }
-    ensures moves { Moves lot.old lot.new purse.old purse.new }
-    ensures own { (lot.new.stored.room ≡ lot.old.stored.room) × (lot.new.feed.reach ≡ lot.old.feed.reach) }
-    ensures seat { purse.new.room ≡ purse.old.room }
+    requires can { CanAdd (D.told disk.old) lot.old purse.old }
+    ensures can { OnOk result (CanAdd (D.told disk.new) lot.new purse.new) }
+    ensures writes { Writes (D.told disk.old) (D.told disk.new) purse.old purse.new lot.old lot.new }
 {
     lot.append(&row, purse, disk)
 }
@@ -49,17 +42,9 @@ fn fill<D: Spill>(
 ) -> Result<(), StreamFault>
     requires short { len ≤ 12000 }
     requires bytes { len + 251 ≤ length bytes.now }
-    requires reach { 5 ≤ lot.old.feed.reach }
-    requires stands { Stands (D.told disk.old) lot.old purse.old }
-    requires holds { Holds (D.told disk.old) lot.old }
-    requires room { length purse.old.pages + length (held lot.old) ≤ purse.old.room }
-    requires supply { CanAppend lot.old purse.old }
-    ensures stands { Stands (D.told disk.new) lot.new purse.new }
-    ensures holds { OnOk result (Holds (D.told disk.new) lot.new) }
-    ensures room { length purse.new.pages + length (held lot.new) ≤ purse.new.room }
-    ensures moves { Moves lot.old lot.new purse.old purse.new }
-    ensures own { (lot.new.stored.room ≡ lot.old.stored.room) × (lot.new.feed.reach ≡ lot.old.feed.reach) }
-    ensures seat { purse.new.room ≡ purse.old.room }
+    requires can { CanAdd (D.told disk.old) lot.old purse.old }
+    ensures can { OnOk result (CanAdd (D.told disk.new) lot.new purse.new) }
+    ensures writes { Writes (D.told disk.old) (D.told disk.new) purse.old purse.new lot.old lot.new }
 {
     let mut number = 0;
     'rows: while number < count {
@@ -81,12 +66,11 @@ fn read<D: Spill>(
     requires bytes { len + 251 ≤ length bytes.now }
     requires ready { IsRewound lot.old }
     requires known { KnowsRows (D.told disk.old) (IsLeft lot.old (D.told disk.old)) }
-    ensures keeps { ReadsOn (D.told disk.old) lot.old lot.new }
-    ensures tells { D.told disk.new ≡ D.told disk.old }
+    ensures { ReadsOn (D.told disk.old) (D.told disk.new) lot.old lot.new }
 {
     let mut number = 0;
     'records: loop {
-        match lot.advance(disk) {
+        match lot.read_next(disk) {
             Ok(true) => number = count_row::<D, Lot>(lot, bytes, number, len),
             Ok(false) => return Ok(number),
             Err(fault) => return Err(fault),
@@ -123,16 +107,9 @@ fn read_again<D: Spill>(
     disk: &mut D,
 ) -> Result<usize, StreamFault>
     requires bytes { len + 251 ≤ length bytes.now }
-    requires stands { Stands (D.told disk.old) lot.old purse.old }
-    requires holds { Holds (D.told disk.old) lot.old }
-    requires room { length purse.old.pages + length (held lot.old) ≤ purse.old.room }
-    requires supply { CanRewind lot.old purse.old }
-    ensures stands { Stands (D.told disk.new) lot.new purse.new }
-    ensures holds { Holds (D.told disk.new) lot.new }
-    ensures room { length purse.new.pages + length (held lot.new) ≤ purse.new.room }
-    ensures supply { CanRewind lot.new purse.new }
-    ensures moves { Moves lot.old lot.new purse.old purse.new }
-    ensures seat { purse.new.room ≡ purse.old.room }
+    requires can { CanRead (D.told disk.old) lot.old purse.old }
+    ensures can { CanRead (D.told disk.new) lot.new purse.new }
+    ensures reads { Reads (D.told disk.old) (D.told disk.new) purse.old purse.new lot.old lot.new }
 {
     let _begun = lot.rewind(purse, disk);
     read(lot, bytes, len, disk)
@@ -150,16 +127,9 @@ fn twice<D: Spill>(
 ) -> Result<usize, StreamFault>
     requires short { len ≤ 12000 }
     requires bytes { len + 251 ≤ length bytes.now }
-    requires reach { 5 ≤ lot.old.feed.reach }
-    requires stands { Stands (D.told disk.old) lot.old purse.old }
-    requires holds { Holds (D.told disk.old) lot.old }
-    requires room { length purse.old.pages + length (held lot.old) ≤ purse.old.room }
-    requires supply { CanAppend lot.old purse.old }
+    requires can { CanAdd (D.told disk.old) lot.old purse.old }
     requires enough { lot.old.stored.room + lot.old.feed.reach ≤ length purse.old.pages + length (held lot.old) }
-    ensures stands { Stands (D.told disk.new) lot.new purse.new }
-    ensures room { length purse.new.pages + length (held lot.new) ≤ purse.new.room }
-    ensures moves { Moves lot.old lot.new purse.old purse.new }
-    ensures seat { purse.new.room ≡ purse.old.room }
+    ensures { Writes (D.told disk.old) (D.told disk.new) purse.old purse.new lot.old lot.new }
 {
     match settle(lot, bytes, count, len, purse, disk) {
         Ok(()) => read_twice(lot, bytes, len, purse, disk),
@@ -178,18 +148,10 @@ fn settle<D: Spill>(
 ) -> Result<(), StreamFault>
     requires short { len ≤ 12000 }
     requires bytes { len + 251 ≤ length bytes.now }
-    requires reach { 5 ≤ lot.old.feed.reach }
-    requires stands { Stands (D.told disk.old) lot.old purse.old }
-    requires holds { Holds (D.told disk.old) lot.old }
-    requires room { length purse.old.pages + length (held lot.old) ≤ purse.old.room }
-    requires supply { CanAppend lot.old purse.old }
+    requires can { CanAdd (D.told disk.old) lot.old purse.old }
     requires enough { lot.old.stored.room + lot.old.feed.reach ≤ length purse.old.pages + length (held lot.old) }
-    ensures stands { Stands (D.told disk.new) lot.new purse.new }
-    ensures holds { OnOk result (Holds (D.told disk.new) lot.new) }
-    ensures room { length purse.new.pages + length (held lot.new) ≤ purse.new.room }
-    ensures supply { OnOk result (CanRewind lot.new purse.new) }
-    ensures moves { Moves lot.old lot.new purse.old purse.new }
-    ensures seat { purse.new.room ≡ purse.old.room }
+    ensures can { OnOk result (CanRead (D.told disk.new) lot.new purse.new) }
+    ensures writes { Writes (D.told disk.old) (D.told disk.new) purse.old purse.new lot.old lot.new }
 {
     match fill(lot, bytes, count, len, purse, disk) {
         Ok(()) => lot.rest(purse, disk),
@@ -206,14 +168,8 @@ fn read_twice<D: Spill>(
     disk: &mut D,
 ) -> Result<usize, StreamFault>
     requires bytes { len + 251 ≤ length bytes.now }
-    requires stands { Stands (D.told disk.old) lot.old purse.old }
-    requires holds { Holds (D.told disk.old) lot.old }
-    requires room { length purse.old.pages + length (held lot.old) ≤ purse.old.room }
-    requires supply { CanRewind lot.old purse.old }
-    ensures stands { Stands (D.told disk.new) lot.new purse.new }
-    ensures room { length purse.new.pages + length (held lot.new) ≤ purse.new.room }
-    ensures moves { Moves lot.old lot.new purse.old purse.new }
-    ensures seat { purse.new.room ≡ purse.old.room }
+    requires can { CanRead (D.told disk.old) lot.old purse.old }
+    ensures { Reads (D.told disk.old) (D.told disk.new) purse.old purse.new lot.old lot.new }
 {
     let first = match read_again(lot, bytes, len, purse, disk) {
         Ok(first) => first,
@@ -237,10 +193,7 @@ pub(crate) fn rest_and_read<D: Spill>(
     requires untold { D.told disk.old ≡ None }
     requires room { length purse.old.pages + length (held lot.old) ≤ purse.old.room }
     requires enough { lot.old.stored.room + lot.old.feed.reach ≤ length purse.old.pages + length (held lot.old) }
-    ensures stands { Stands (D.told disk.new) lot.new purse.new }
-    ensures room { length purse.new.pages + length (held lot.new) ≤ purse.new.room }
-    ensures moves { Moves lot.old lot.new purse.old purse.new }
-    ensures seat { purse.new.room ≡ purse.old.room }
+    ensures { Writes (D.told disk.old) (D.told disk.new) purse.old purse.new lot.old lot.new }
 {
     match lot.rest(purse, disk) {
         Ok(()) => read_twice(lot, bytes, len, purse, disk),

@@ -1,7 +1,7 @@
 ghost use Rattle.std.specs.Prelude.{◌≡◌, ◌+◌, ◌<◌, ◌≤◌, None, OnOk, length};
-ghost use Rattle.lot_store.specs.Lots.{IsRewound, held, pages_of};
-ghost use Rattle.page_feed.specs.Feeds.{lent};
-ghost use Rattle.worked_lots.specs.Worked.{CanAppend, CanRewind, Moves, ReadsOn};
+ghost use Rattle.lot_store.specs.LotCalls.{IsSupplied, Reads, Writes};
+ghost use Rattle.lot_store.specs.Lots.{IsRewound, held};
+ghost use Rattle.worked_lots.specs.Worked.{CanRewind, ReadsOn};
 
 use flow_outside::failure::StreamFault;
 use flow_outside::spill::Spill;
@@ -22,12 +22,8 @@ pub(crate) fn fill<D: Spill>(
     requires some { 0 < length records.now }
     requires untold { D.told disk.old ≡ None }
     requires room { length purse.old.pages + length (held lot.old) ≤ purse.old.room }
-    requires supply { CanAppend lot.old purse.old }
-    ensures untold { D.told disk.new ≡ None }
-    ensures room { length purse.new.pages + length (held lot.new) ≤ purse.new.room }
-    ensures moves { Moves lot.old lot.new purse.old purse.new }
-    ensures own { (lot.new.stored.room ≡ lot.old.stored.room) × (lot.new.feed.reach ≡ lot.old.feed.reach) }
-    ensures seat { purse.new.room ≡ purse.old.room }
+    requires supply { IsSupplied purse.old lot.old }
+    ensures { Writes (D.told disk.old) (D.told disk.new) purse.old purse.new lot.old lot.new }
 {
     let mut number = 0;
     'rows: while number < count {
@@ -47,13 +43,9 @@ fn add<D: Spill>(
 ) -> Result<(), StreamFault>
     requires untold { D.told disk.old ≡ None }
     requires room { length purse.old.pages + length (held lot.old) ≤ purse.old.room }
-    requires supply { CanAppend lot.old purse.old }
-    ensures untold { D.told disk.new ≡ None }
-    ensures room { length purse.new.pages + length (held lot.new) ≤ purse.new.room }
-    ensures supply { OnOk result (CanAppend lot.new purse.new) }
-    ensures moves { Moves lot.old lot.new purse.old purse.new }
-    ensures own { (lot.new.stored.room ≡ lot.old.stored.room) × (lot.new.feed.reach ≡ lot.old.feed.reach) }
-    ensures seat { purse.new.room ≡ purse.old.room }
+    requires supply { IsSupplied purse.old lot.old }
+    ensures supply { OnOk result (IsSupplied purse.new lot.new) }
+    ensures writes { Writes (D.told disk.old) (D.told disk.new) purse.old purse.new lot.old lot.new }
 {
     if record.len() > 4_000 {
         return Ok(());
@@ -76,12 +68,11 @@ pub(crate) fn read<D: Spill>(
 ) -> Result<Given, StreamFault>
     requires ready { IsRewound lot.old }
     requires untold { D.told disk.old ≡ None }
-    ensures keeps { ReadsOn (D.told disk.old) lot.old lot.new }
-    ensures untold { D.told disk.new ≡ None }
+    ensures { ReadsOn (D.told disk.old) (D.told disk.new) lot.old lot.new }
 {
     let mut given = Given { same: 0, others: 0 };
     'records: loop {
-        match lot.advance(disk) {
+        match lot.read_next(disk) {
             Ok(true) => given = counted(given, RecordStream::<D>::head(lot), records),
             Ok(false) => return Ok(given),
             Err(fault) => return Err(fault),
@@ -132,10 +123,7 @@ pub(crate) fn read_all<D: Spill>(
     requires untold { D.told disk.old ≡ None }
     requires room { length purse.old.pages + length (held lot.old) ≤ purse.old.room }
     requires supply { CanRewind lot.old purse.old }
-    ensures untold { D.told disk.new ≡ None }
-    ensures room { length purse.new.pages + length (held lot.new) ≤ purse.new.room }
-    ensures moves { Moves lot.old lot.new purse.old purse.new }
-    ensures seat { purse.new.room ≡ purse.old.room }
+    ensures { Reads (D.told disk.old) (D.told disk.new) purse.old purse.new lot.old lot.new }
 {
     let _begun = lot.rewind(purse, disk);
     read(lot, records, disk)

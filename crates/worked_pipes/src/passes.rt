@@ -1,7 +1,8 @@
-ghost use Rattle.std.specs.Prelude.{◌≡◌, ℕ, ◌+◌, ◌<◌, ◌≤◌, None, OnOk, length};
+ghost use Rattle.std.specs.Prelude.{◌≡◌, ℕ, ◌+◌, ◌<◌, ◌≤◌, [], ◌∷◌, true, None, length};
 ghost use Rattle.lot_store.specs.Lots.{empty, held};
+ghost use Rattle.lot_store.specs.Storage.{Preserves, pair};
 ghost use Rattle.segment_core.specs.Segments.{segment_sum};
-ghost use Rattle.row_pipe.specs.Pipes.{Passes};
+ghost use Rattle.row_pipe.specs.Pipes.{Passes, RestsAfter};
 
 use crate::lots::{Given, fill, read_all};
 use expr_core::scratch::Scratch;
@@ -37,8 +38,7 @@ fn pass<D: Spill>(
     requires room { length purse.old.pages + (length (held input.old) + length (held out.old)) ≤ purse.old.room }
     requires rests { length (held input.old) ≤ input.old.stored.room }
     ensures passes { Passes (D.told disk.old) (D.told disk.new) input.old input.new out.old out.new purse.old purse.new }
-    ensures read { length (held input.new) ≤ input.new.stored.room }
-    ensures written { OnOk result (length (held out.new) ≤ out.new.stored.room) }
+    ensures rests { RestsAfter input.new out.new result }
 {
     let mut io = Io { purse, disk };
     pipe(p, input, out, s, &mut io)
@@ -60,10 +60,8 @@ fn fill_and_pass<D: Spill>(
     requires fresh_out { out.old ≡ empty input.old.stored.room 3 }
     requires enough { input.old.stored.room + input.old.stored.room + 8 ≤ length purse.old.pages }
     requires room { length purse.old.pages ≤ purse.old.room }
-    ensures untold { D.told disk.new ≡ None }
-    ensures room { length purse.new.pages + (length (held input.new) + length (held out.new)) ≤ purse.new.room }
-    ensures segments { (h : ℕ → ℕ → ℕ) → segment_sum h purse.new.pages + (segment_sum h (held input.new) + segment_sum h (held out.new)) ≡ segment_sum h purse.old.pages }
-    ensures seat { purse.new.room ≡ purse.old.room }
+    ensures { Preserves (pair (D.told disk.old) purse.old input.old out.old)
+        (pair (D.told disk.new) purse.new input.new out.new) (0 ∷ 1 ∷ []) (0 ∷ 1 ∷ []) true }
 {
     match fill(input, records.given, records.count, purse, disk) {
         Ok(()) => (),

@@ -1,13 +1,17 @@
 -- From the lots at some places to all lots of a storage.
-use Rattle.std.proofs.Common.{Result, Ok, Err, OnOk, ◌≡◌, ◌≢◌, ◌⊎◌, inl, inr, ℕ, zero, suc, ◌+◌, ◌<◌, ◌≤◌, Bool, true, false, All, List, [], ◌∷◌, ◌++◌, length, map, Option, Some, None, refl, sym, ap, ◌∙◌, subst, arith, is_ok, append-nil, sum_by, cond, not, ◌==◌}
-use Rattle.std.proofs.lemmas.Bool.{cases_lt}
+use Rattle.std.proofs.Common.{Result, Ok, Err, OnOk, ◌≡◌, ◌≢◌, ◌⊎◌, inl, inr, ℕ, zero, suc, ◌+◌, ◌<◌, ◌≤◌, Bool, true, false, All, List, [], ◌∷◌, ◌++◌, length, map, Option, Some, None, refl, sym, ap, ◌∙◌, subst, arith, is_ok, append-nil, sum_by, cond, not, ◌==◌, take, drop}
+use Rattle.std.proofs.Math.ListN.{drop_of_length-le}
+use Rattle.std.proofs.lemmas.List.{take_all}
+use Rattle.std.proofs.lemmas.Bool.{cases_eq, cases_lt}
 use Rattle.std.proofs.lemmas.Bool.Decides.{nat_tests}
 use Rattle.std.proofs.lemmas.List.Elements.{All-head, All-tail}
 use Rattle.std.proofs.lemmas.List.Sums.{sum_by-cons}
 use Rattle.std.specs.List.{range_with_len}
 use Rattle.segment_core.specs.Segments.{PurseView, SegmentView, count_other_size}
 use Rattle.flow_outside.specs.Blocks.{Blocks, BothTold}
+use Rattle.flow_outside.specs.Causes.{HasStreamCause}
 use Rattle.flow_outside.specs.Told.{IfTold}
+use Rattle.flow_outside.specs.declared.failure.StreamFault.{StreamFault}
 use Rattle.lot_store.specs.LotCalls.{AppendsRow, KeepsContents}
 use Rattle.lot_store.specs.Lots.{HoldsRows, LotView, empty, held}
 use Rattle.lot_store.specs.Rows.{Gains, rows_in, rows_of}
@@ -16,6 +20,7 @@ use Rattle.flow_types.specs.Records.{IsTupleOf, form, tuple_of}
 use Rattle.flow_model.specs.Env.{Tuples}
 use Rattle.record_codec.proofs.RecordLemmas.{reads_as_written}
 use Rattle.row_pipe.specs.Pipes.{GivesRows, GivesWithin, HoldsTuples, HoldsWhatFits, MayPass, Passes}
+use Rattle.row_pipe.proofs.Turning.{cause_later}
 use Rattle.row_pipe.specs.Works.{piped}
 use Rattle.row_pipe.specs.declared.work.Work.{Work}
 use Rattle.lot_store.specs.Storage.{AreBelow, IsNoneOf, IsReady, IsReadyAt, Preserves, Stand, StaysStanding, StorageView, alone, held_count, lot_at, owners, pair, part_of, places_at, with_segment}
@@ -37,6 +42,15 @@ whole told purse lots = record { told = told; purse = purse; lots = lots }
 pub first_of : (lots : List LotView) (at : ℕ) → at < length lots → LotView
 first_of [] at low = absurd (omega (arith, low))
 first_of (lot ∷ lots) at low = lot
+
+-- a place of the list is one of the list that the fields hold
+pub low_in : {D : Type 0} (s r : Storage D) (at : ℕ) → s ≡ r → at < length r.lots → at < length s.lots
+low_in s r at is low = subst (λ x. at < length x.lots) (sym is) low
+
+-- A list that was lent as a slice and came back has what the slice has.
+pub written_back : (n : ℕ) (ys xs : List LotView) → length ys ≡ length xs → length xs ≡ n → take n (ys ++ drop (length ys) xs) ≡ ys
+written_back n ys xs same is =
+    ap (λ zs. take n (ys ++ zs)) (drop_of_length-le xs (omega (arith, same))) ∙ ap (take n) (append-nil ys) ∙ take_all n ys (omega (arith, same, is))
 
 -- A call may work on the lot at a place.
 pub ready_at : (size : ℕ) (t : Option Blocks) (p : PurseView) (lots : List LotView) (at : ℕ) (d : LotView) → at < length lots → IsReadyAt size (whole t p lots) → IsReady (alone t p (lot_at lots at d))
@@ -79,7 +93,7 @@ ready_with_page size t p xs page sized room ready = record {
   }) ready.stand;
 }
   where
-    here : cond (not (length page.bytes == size)) 1 0 ≡ 0
+    here : ◌≡◌ {A = ℕ} (cond (not (length page.bytes == size)) 1 0) 0
     here = grind (arith, nat_tests)
 
     more : count_other_size size (page ∷ p.pages) ≡ count_other_size size p.pages
@@ -139,7 +153,7 @@ gained_rows answer t u fields w input a b holds gives =
 past_places : (i start count : ℕ) → IsNoneOf i (range_with_len start count) → start ≤ i → start + count ≤ i
 past_places i start zero none more = omega (arith, more)
 past_places i start (suc count) none more =
-    omega (arith, past_places i (suc start) count none.1 (omega (arith, more, differ i start none.0 more)))
+    omega (arith, past_places i (start + 1) count none.1 (omega (arith, more, differ i start none.0 more)))
   where
     differ : (i start : ℕ) → i ≢ start → start ≤ i → start < i
     differ i start far more = elim (cases_lt start i) [ inl low ↦ low | inr high ↦ absurd (far (omega (arith, more, high))) ]
@@ -169,9 +183,33 @@ pub purse_grows : {D : Type 0} (told : D → Option Blocks) (a b : Storage D) (a
 purse_grows told a b at room reach tidy d low keeps is =
     let count : LotView → ℕ = λ (lot : LotView). length (held lot) in
     let sums : sum_by count b.lots + sum_by count (picked a.lots (at ∷ []) d) ≡ sum_by count a.lots + sum_by count (picked b.lots (at ∷ []) d) =
-        split_sum (at ∷ []) a.lots b.lots d (tt, tt) (low, tt) keeps.preserves.count count count (λ k inside none. ap count (keeps.preserves.same k d none)) in
+    split_sum (at ∷ []) a.lots b.lots d (tt, tt) (low, tt) keeps.preserves.count count count (λ k inside none. ap count (keeps.preserves.same k d none)) in
     let none : count (lot_at b.lots at d) ≡ 0 = ap count is in
     omega (arith, sums, none, sum_by-cons count (lot_at b.lots at d) [], counts_after (view_of told a) (view_of told b) (at ∷ []) (at ∷ []) tidy keeps.preserves)
+
+-- One lot more is empty.
+pub empty_more : {D : Type 0} (told : D → Option Blocks) (a b c : Storage D) (at : ℕ) (places : List ℕ) (before now : Bool) → KeepsStorage told a b places places before → KeepsStorage told b c (at ∷ []) (at ∷ []) now
+    → ((i : ℕ) (d : LotView) → i < at → lot_at b.lots i d ≡ empty (lot_at a.lots i d).stored.room (lot_at a.lots i d).feed.reach)
+    → ((d : LotView) → lot_at c.lots at d ≡ empty (lot_at b.lots at d).stored.room (lot_at b.lots at d).feed.reach)
+    → (i : ℕ) (d : LotView) → i < at + 1 → lot_at c.lots i d ≡ empty (lot_at a.lots i d).stored.room (lot_at a.lots i d).feed.reach
+empty_more told a b c at places before now f g below here i d low = elim (cases_eq i at) [
+  | inl is ↦
+      subst (λ n. lot_at c.lots n d ≡ empty (lot_at a.lots n d).stored.room (lot_at a.lots n d).feed.reach) (sym is)
+      (here d ∙ ap (λ n. empty n (lot_at b.lots at d).feed.reach) (f.preserves.rooms at d) ∙ ap (empty (lot_at a.lots at d).stored.room) (f.preserves.reach at d))
+  | inr far ↦ g.preserves.same i d (far, tt) ∙ below i d (omega (arith, low, far))
+]
+
+-- The first fault, or the next.
+pub cause_first : (a b c : ℕ) (t u : Option Blocks) (P : Blocks → Blocks → Type 0) (first next answer : Result Unit StreamFault) → (is_ok first ≡ true → answer ≡ next) → (is_ok first ≡ false → answer ≡ first) → BothTold t u P
+    → HasStreamCause a b t first → HasStreamCause b c u next → HasStreamCause a c t answer
+cause_first a b c t u P (Ok done) next answer same fault told f g =
+    subst (λ r. HasStreamCause a c t r) (sym (same refl)) (cause_later a b c t u next P f.later told g)
+cause_first a b c t u P (Err wrong) next answer same fault told f g =
+    subst (λ r. HasStreamCause a c t r) (sym (fault refl)) (record {
+      later = omega (arith, f.later, g.later);
+      spill = λ is. omega (arith, f.spill is, g.later);
+      damaged = f.damaged;
+    })
 
 -- Every block is free where no lot has a run.
 pub frees_all : {E : Type 0} {D : Type 0} (told : D → Option Blocks) (answer : Result Unit E) (a b : Storage D) (places : List ℕ) → IsReadyAt a.size (view_of told a) → KeepsStorage told a b places places (is_ok answer) → All (λ (lot : LotView). lot.stored.run ≡ None) b.lots

@@ -39,7 +39,7 @@ pub(crate) fn append_at<X: Span, D: Spill>(
     ensures writes { (d : LotView) → Writes (D.told disk.old) (D.told disk.new) purse.old purse.new (lot_at lots.old.items at d) (lot_at lots.new.items at d) }
     ensures cause { HasWriteCause (D.fault_count disk.old) (D.fault_count disk.new) result }
     ensures supply { (d : LotView) → OnOk result (IsSupplied purse.new (lot_at lots.new.items at d)) }
-    ensures count { length lots.new ≡ vec_len lots.old }
+    ensures count { length lots.new.items ≡ length lots.old.items }
     ensures same { (i : ℕ) (d : LotView) → i ≢ at → lot_at lots.new.items i d ≡ lot_at lots.old.items i d }
 {
     lots[at].append(row, purse, disk)
@@ -59,7 +59,7 @@ pub(crate) fn append_page_at<D: Spill>(
         (AppendsPage page (lot_at lots.old.items at d) (lot_at lots.new.items at d))) }
     ensures writes { (d : LotView) → Writes (D.told disk.old) (D.told disk.new) (with_segment page purse.old) purse.new (lot_at lots.old.items at d) (lot_at lots.new.items at d) }
     ensures cause { HasWriteCause (D.fault_count disk.old) (D.fault_count disk.new) result }
-    ensures count { length lots.new ≡ vec_len lots.old }
+    ensures count { length lots.new.items ≡ length lots.old.items }
     ensures same { (i : ℕ) (d : LotView) → i ≢ at → lot_at lots.new.items i d ≡ lot_at lots.old.items i d }
 {
     lots[at].append_page(page, purse, disk)
@@ -79,7 +79,7 @@ pub(crate) fn rest_at<D: Spill>(
     ensures writes { (d : LotView) → Writes (D.told disk.old) (D.told disk.new) purse.old purse.new (lot_at lots.old.items at d) (lot_at lots.new.items at d) }
     ensures cause { HasWriteCause (D.fault_count disk.old) (D.fault_count disk.new) result }
     ensures rests { (d : LotView) → length (held (lot_at lots.new.items at d)) ≤ (lot_at lots.new.items at d).stored.room }
-    ensures count { length lots.new ≡ vec_len lots.old }
+    ensures count { length lots.new.items ≡ length lots.old.items }
     ensures same { (i : ℕ) (d : LotView) → i ≢ at → lot_at lots.new.items i d ≡ lot_at lots.old.items i d }
 {
     lots[at].rest(purse, disk)
@@ -99,7 +99,7 @@ pub(crate) fn drop_at<D: Spill>(
     ensures preserves { (d : LotView) → Preserves (alone (D.told disk.old) purse.old (lot_at lots.old.items at d))
         (alone (D.told disk.new) purse.new (lot_at lots.new.items at d)) (0 ∷ []) (0 ∷ []) (is_ok result) }
     ensures cause { HasStreamCause (D.fault_count disk.old) (D.fault_count disk.new) (D.told disk.old) result }
-    ensures count { length lots.new ≡ vec_len lots.old }
+    ensures count { length lots.new.items ≡ length lots.old.items }
     ensures same { (i : ℕ) (d : LotView) → i ≢ at → lot_at lots.new.items i d ≡ lot_at lots.old.items i d }
 {
     lots[at].drop_lot(purse, disk)
@@ -128,7 +128,7 @@ pub(crate) fn pipe_at<D: Spill>(
         (D.told io.old.disk.now) (lot_at lots.new.items from d) result }
     ensures rests { (d : LotView) → RestsAfter (lot_at lots.new.items from d) (lot_at lots.new.items to d) result }
     ensures lent { HasSameParts io.old io.new }
-    ensures count { length lots.new ≡ vec_len lots.old }
+    ensures count { length lots.new.items ≡ length lots.old.items }
     ensures same { (i : ℕ) (d : LotView) → i ≢ from → i ≢ to → lot_at lots.new.items i d ≡ lot_at lots.old.items i d }
 {
     pipe_between(p, lots, from, to, s, io)

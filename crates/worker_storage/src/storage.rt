@@ -27,7 +27,7 @@ use std::marker::Model;
 /// A worker's purse, its disk and its lots, by their places. They always stand together: all segments have one
 /// size, no block of the disk is one of two lots, and the purse has room for every segment. It may not be let go:
 /// `into_parts` gives all back.
-pub struct WorkerStorage<D> {
+pub struct WorkerStorage<D: Spill> {
     size: u32,
     purse: Purse,
     disk: D,
@@ -109,13 +109,7 @@ impl<D: Spill> WorkerStorage<D> {
         ensures keeps { KeepsStorage D.told (record self.old { purse = with_segment page self.old.purse }) self.new (at ∷ []) (at ∷ []) true }
         ensures cause { HasWriteCause (D.fault_count self.old.disk) (D.fault_count self.new.disk) result }
     {
-        append_page_at(
-            &mut self.lots,
-            at,
-            page,
-            &mut self.purse,
-            &mut self.disk,
-        )
+        append_page_at(&mut self.lots, at, page, &mut self.purse, &mut self.disk)
     }
 
     /// Brings a lot to rest, as `Lot::rest` does: it then holds at most as many segments as it keeps pages.

@@ -1,18 +1,13 @@
-use Rattle.std.proofs.Common.{◌≡◌, ◌+◌, ◌-◌, ◌≤◌, length}
-use Rattle.lot_store.specs.Lots.{held}
-use Rattle.worked_lots.specs.Worked.{CanAppend, Holds, Moves, Stands}
+use Rattle.std.proofs.Common.{◌-◌, ◌≤◌}
+use Rattle.lot_store.specs.LotCalls.{Writes}
+use Rattle.worked_lots.specs.Worked.{CanAdd}
 use Rattle.worked_lots.proofs.lots.fill.Given as goal
 
 abbrev pub invariant-rows : goal.invariant-rows
 invariant-rows g l = record {
   within : l.number ≤ l.count;
-  stands : Stands (g.D.Spill.told l.disk) l.lot l.purse;
-  holds : Holds (g.D.Spill.told l.disk) l.lot;
-  room : length l.purse.pages + length (held l.lot) ≤ l.purse.room;
-  supply : CanAppend l.lot l.purse;
-  moves : Moves l.fn.lot l.lot l.fn.purse l.purse;
-  own : (l.lot.stored.room ≡ l.fn.lot.stored.room) × (l.lot.feed.reach ≡ l.fn.lot.feed.reach);
-  seat : l.purse.room ≡ l.fn.purse.room;
+  can : CanAdd (g.D.Spill.told l.disk) l.lot l.purse;
+  writes : Writes (g.D.Spill.told l.fn.disk) (g.D.Spill.told l.disk) l.fn.purse l.purse l.fn.lot l.lot;
 }
 
 abbrev pub decreases-rows : goal.decreases-rows

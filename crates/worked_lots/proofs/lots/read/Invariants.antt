@@ -1,4 +1,3 @@
-use Rattle.std.proofs.Common.{◌≡◌}
 use Rattle.paged_view.specs.Streams.{KnowsRows}
 use Rattle.page_feed.specs.Feeds.{most_left}
 use Rattle.lot_store.specs.Lots.{IsLeft}
@@ -8,8 +7,7 @@ use Rattle.worked_lots.proofs.lots.read.Given as goal
 abbrev pub invariant-records : goal.invariant-records
 invariant-records g l = record {
   known : KnowsRows (g.D.Spill.told l.disk) (IsLeft l.lot (g.D.Spill.told l.disk));
-  keeps : ReadsOn (g.D.Spill.told l.fn.disk) l.fn.lot l.lot;
-  tells : g.D.Spill.told l.disk ≡ g.D.Spill.told l.fn.disk;
+  reads : ReadsOn (g.D.Spill.told l.fn.disk) (g.D.Spill.told l.disk) l.fn.lot l.lot;
 }
 
 abbrev pub decreases-records : goal.decreases-records
