@@ -14,3 +14,4 @@ pub mod StorageSums
 pub mod StorageBlocks
 pub mod StorageLaws
 pub mod StorageLot
+pub mod HereLemmas

@@ -1,11 +1,11 @@
 -- A lot that is read from its first page on.
-use Rattle.std.proofs.Common.{◌≡◌, ℕ, zero, suc, ◌+◌, ◌-◌, ◌^◌, ◌<◌, ◌≤◌, ◌==◌, Bool, cond, not, All, List, [], ◌∷◌, ◌++◌, length, map, Result, Ok, Err, IfOk, Option, Some, None, refl, sym, ap, ◌∙◌, subst, arith, append_assoc}
+use Rattle.std.proofs.Common.{◌≡◌, ℕ, ◌+◌, ◌^◌, ◌<◌, ◌==◌, Bool, cond, not, All, List, ◌++◌, length, map, Result, Ok, Err, IfOk, Option, Some, None, refl, sym, ap, ◌∙◌, subst, arith, append_assoc}
 use Rattle.segment_core.specs.Segments.{SegmentView, count_other_size, segment_sum}
 use Rattle.segment_core.proofs.Weighing.{segment_sum-append}
 use Rattle.flow_outside.specs.Blocks.{Blocks, BothTold}
 use Rattle.flow_outside.specs.Told.{IfTold}
 use Rattle.flow_types.specs.Records.{frames}
-use Rattle.paged_view.specs.Pages.{body, page_at, used_bytes, all_used_bytes, used}
+use Rattle.paged_view.specs.Pages.{used_bytes, all_used_bytes}
 use Rattle.paged_view.specs.Streams.{Advances, KnowsRows}
 use Rattle.spool.specs.Headers.{as_page}
 use Rattle.spool.specs.Reading.{number_at}
@@ -13,11 +13,11 @@ use Rattle.spool.specs.Runs.{HasBlock, Stands, joined, pages_at}
 use Rattle.spool.specs.declared.place.RunReader.{RunReader}
 use Rattle.spool.specs.declared.writer.RunWriter.{RunWriter}
 use Rattle.page_feed.specs.Feeds.{FeedView, HasBlockLeft, block_of, HasLeft, IsLeftReadable, kept_in, open_page_in, lent, pages_left}
-use Rattle.page_feed.specs.Reach.{IsWithinReach, behind, sizes_of, touched}
-use Rattle.page_feed.proofs.ReachLemmas.{behind_past, behind_within}
+use Rattle.page_feed.specs.Reach.{IsWithinReach, behind, sizes_of}
+use Rattle.page_feed.proofs.ReachLemmas.{reach_first}
 use Rattle.lot_store.specs.Spilling.{IsFreeOrOwn, IsSpilled, OwnsBlock, spilled}
 use Rattle.lot_store.specs.Stores.{PagesView, held as held_stored, sizes as sizes_stored, text as text_stored}
-use Rattle.lot_store.specs.Lots.{HoldsRows, IsLeft, IsLot, IsRewound, IsSound, LotView, StandsWith, held, pages_of}
+use Rattle.lot_store.specs.Lots.{HoldsRows, IsLeft, IsRewound, IsSound, LotView, StandsWith, held, pages_of}
 use Rattle.lot_store.specs.LotKeeping.{Keeps, MovesSegments}
 use Rattle.lot_store.specs.Reads.{BeginsAt, BeginsRun, HandsOver}
 use Rattle.lot_store.proofs.RestLemmas.{GaveBack, stored_same}
@@ -52,29 +52,6 @@ owns_begun m None (Some reader) block begins left = absurd begins
 owns_begun m (Some writer) None block begins left = absurd begins
 owns_begun m (Some writer) (Some reader) block begins left =
     subst (λ k. HasBlock m writer.first k block) begins.left (subst (λ k. HasBlock m k reader.left block) begins.at left)
-
--- An empty page is touched, and nothing of it is behind.
-touched_empty : (k : ℕ) (sizes : List ℕ) → touched k sizes ≤ touched k (0 ∷ sizes)
-touched_empty zero sizes = omega arith
-touched_empty (suc n) sizes =
-    let same : suc n - 0 ≡ suc n = omega arith in
-    omega (arith, ap (λ k. touched k sizes) same)
-
-behind_empty : (k : ℕ) (sizes : List ℕ) → behind k (0 ∷ sizes) ≡ behind k sizes
-behind_empty k sizes =
-    let same : k - 0 ≡ k = omega arith in
-    behind_past k 0 sizes (omega arith) ∙ ap (λ n. behind n sizes) same
-
--- Empty pages before the first byte are behind it at once.
-pub reach_first : (reach : ℕ) (sizes : List ℕ) (rows : List (List ℕ)) → IsWithinReach reach sizes rows → IsWithinReach reach (behind 0 sizes) rows
-reach_first reach [] rows within = within
-reach_first reach (zero ∷ sizes) [] within = tt
-reach_first reach (zero ∷ sizes) (row ∷ rows) (first, rest) =
-    let fewer : touched (4 + length row) sizes ≤ reach = omega (arith, touched_empty (4 + length row) sizes, first) in
-    reach_first reach sizes (row ∷ rows) (fewer, subst (λ left. IsWithinReach reach left rows) (behind_empty (4 + length row) sizes) rest)
-reach_first reach (suc size ∷ sizes) rows within =
-    let same : suc size - 0 ≡ suc size = omega arith in
-    subst (λ left. IsWithinReach reach left rows) (sym (behind_within 0 (suc size) sizes (omega arith) ∙ ap (λ n. n ∷ sizes) same)) within
 
 -- The pages are those that the lot had.
 pub pages_begun : (b c : LotView) → BeginsAt b c → pages_of c ≡ b.stored

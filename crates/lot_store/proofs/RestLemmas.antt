@@ -1,7 +1,5 @@
 -- A lot that stopped reading: what its pages keep and add is what the lot does.
 use Rattle.std.proofs.Common.{◌≡◌, ℕ, ◌+◌, ◌-◌, ◌<◌, ◌≤◌, ◌==◌, cond, not, List, [], ◌∷◌, ◌++◌, length, replicate, Result, OnOk, IsSome, Option, Some, None, refl, sym, ap, ◌∙◌, subst, arith, append-nil}
-use Rattle.std.proofs.lemmas.List.Elements.{All-nil}
-use Rattle.paged_view.specs.Pages.{used_bytes}
 use Rattle.segment_core.specs.Segments.{SegmentView, segment_sum}
 use Rattle.segment_core.proofs.Weighing.{segment_sum-append, segment_sum-cons, segment_sum-ones}
 use Rattle.flow_outside.specs.Blocks.{Blocks, BothTold}
@@ -10,7 +8,7 @@ use Rattle.spool.specs.declared.writer.RunWriter.{RunWriter}
 use Rattle.lot_store.specs.Spilling.{IsSpilled}
 use Rattle.lot_store.specs.Stores.{PagesView, StandsWith as StoredStands, IsSound as IsStoredSound, held as held_stored, text as text_stored}
 use Rattle.lot_store.specs.Keeping.{AddsPages, AddsFullPages as StoredAddsFull, AddsText as StoredAdds, Keeps as StoredKeeps, KeepsOthers as StoredKeepsOthers, MovesSegments as StoredMoves, PutsPage as PutsInto}
-use Rattle.lot_store.specs.Lots.{IsLot, IsSound, LotView, StandsWith, held, pages_of}
+use Rattle.lot_store.specs.Lots.{IsSound, LotView, StandsWith, held, pages_of}
 use Rattle.lot_store.specs.LotKeeping.{AddsFullPages, AddsText, Keeps, KeepsOthers, MovesSegments, PutsPage}
 use Rattle.lot_store.proofs.SpillLemmas.{told_with}
 use Rattle.lot_store.proofs.LotLemmas.{nothing, on_ok_map}

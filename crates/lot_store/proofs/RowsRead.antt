@@ -1,13 +1,13 @@
 -- A lot holds the records that it is read as.
-use Rattle.std.proofs.Common.{◌≡◌, ℕ, zero, suc, ◌+◌, ◌^◌, ◌<◌, ◌≤◌, All, List, [], ◌∷◌, ◌++◌, length, refl, sym, ap, ◌∙◌, subst, arith, append-nil, length-append}
+use Rattle.std.proofs.Common.{◌≡◌, ℕ, zero, suc, ◌^◌, ◌<◌, ◌≤◌, All, List, [], ◌∷◌, ◌++◌, length, refl, sym, ap, ◌∙◌, subst, arith, append-nil, length-append}
 use Rattle.std.proofs.lemmas.List.{append_cancel_left}
 use Rattle.std.proofs.lemmas.List.Elements.{All-head, All-tail}
 use Rattle.flow_outside.specs.Blocks.{Blocks}
 use Rattle.flow_types.specs.Records.{framed, frames}
-use Rattle.paged_view.specs.Reading.{HasRecord, after_first, first_record}
+use Rattle.paged_view.specs.Reading.{HasRecord, after_first}
 use Rattle.paged_view.specs.RecordLaws.{ReadsFirst}
 use Rattle.paged_view.proofs.RecordLemmas.{length-framed, reads_first}
-use Rattle.lot_store.specs.Lots.{HoldsRows, LotView, text}
+use Rattle.lot_store.specs.Lots.{HoldsRows, LotView}
 use Rattle.lot_store.specs.Rows.{Gains, IsWhole, rows_in, unframed, unframed_up_to}
 
 read_frames : (most : ℕ) (rows : List (List ℕ)) → All (λ row. length row < 2 ^ 32) rows → length (frames rows) ≤ most → unframed_up_to most (frames rows) ≡ rows

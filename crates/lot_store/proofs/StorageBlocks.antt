@@ -16,9 +16,9 @@ use Rattle.spool.proofs.PushLemmas.{writer_stays}
 use Rattle.page_feed.specs.Feeds.{FeedView, HasBlockLeft, HasLeft, IsLeftReadable, pages_left}
 use Rattle.page_feed.specs.Reach.{IsWithinReach, behind, sizes_of}
 use Rattle.lot_store.specs.Spilling.{IsSpilled, OwnsBlock, spilled}
-use Rattle.lot_store.specs.Lots.{HoldsRows, LotView, ReadsOwn, pages_of, text}
+use Rattle.lot_store.specs.Lots.{LotView, pages_of, text}
 use Rattle.lot_store.specs.LotKeeping.{KeepsRows}
-use Rattle.lot_store.specs.Storage.{StandsAt, Stand, blocks_at, lot_at, owners, run_blocks, times_in}
+use Rattle.lot_store.specs.Storage.{StandsAt, blocks_at, lot_at, owners, run_blocks, times_in}
 use Rattle.lot_store.proofs.StorageSums.{some_above}
 
 -- how often a block is one of a run's

@@ -1,26 +1,24 @@
 -- The laws of `Preserves`: it holds of nothing done, of one call after another, and of a whole list where a call worked on some
 -- of its lots.
-use Rattle.std.proofs.Common.{◌≡◌, ◌≢◌, ◌⊎◌, inl, inr, ℕ, zero, suc, ◌+◌, ◌<◌, ◌≤◌, Bool, true, false, All, List, [], ◌∷◌, length, map, slice_index_or, Option, Some, None, refl, sym, ap, ◌∙◌, subst, arith, sum_by, cond, not, ◌==◌}
+use Rattle.std.proofs.Common.{◌≡◌, ◌⊎◌, inl, inr, ℕ, zero, suc, ◌+◌, ◌<◌, ◌≤◌, Bool, true, All, List, [], ◌∷◌, length, slice_index_or, Option, Some, None, refl, sym, ap, ◌∙◌, subst, arith, sum_by}
 use Rattle.std.proofs.lemmas.Bool.{cases_eq, cases_lt}
 use Rattle.std.proofs.lemmas.List.{length-map}
 use Rattle.std.proofs.lemmas.List.Elements.{All-tail}
 use Rattle.std.proofs.lemmas.List.Sums.{sum_by-cons}
-use Rattle.segment_core.specs.Segments.{PurseView, SegmentView, count_other_size, segment_sum}
+use Rattle.segment_core.specs.Segments.{count_other_size, segment_sum}
 use Rattle.segment_core.proofs.Weighing.{segment_sum-ones}
-use Rattle.flow_outside.specs.Blocks.{Blocks, BothTold, IsLive}
+use Rattle.flow_outside.specs.Blocks.{Blocks, BothTold}
 use Rattle.flow_outside.specs.Told.{IfTold}
-use Rattle.spool.specs.declared.writer.RunWriter.{RunWriter}
-use Rattle.lot_store.specs.Spilling.{IsSpilled, OwnsBlock}
 use Rattle.page_feed.specs.Feeds.{HasLeft}
 use Rattle.page_feed.specs.Reach.{IsWithinReach}
-use Rattle.lot_store.specs.Lots.{HoldsRows, LotView, ReadsOwn, held, pages_of, sizes}
+use Rattle.lot_store.specs.Lots.{HoldsRows, LotView, held, pages_of, sizes}
 use Rattle.lot_store.specs.Stores.{PagesView, sizes as sizes_stored, text as text_stored}
 use Rattle.lot_store.specs.Laws.{WasKept}
 use Rattle.lot_store.specs.Storage.{AreBelow, Differ, IsFreeOrOwned, IsNoneOf, IsReady, IsReadyAt, HasBudget, Preserves, SparesBlocks, Stand, StandsAt, StaysStanding, StorageView, held_count, held_sum, lot_at, lots_at, owners, part_of, places_at, rooms, times_in}
 use Rattle.lot_store.proofs.SpillLemmas.{told_join}
 use Rattle.lot_store.proofs.Telling.{told_after, told_map, told_same, told_weaker}
 use Rattle.lot_store.proofs.StorageSums.{one_least, outside_sum, part_sum, split_sum}
-use Rattle.lot_store.proofs.StorageBlocks.{IsKeptLot, counts_own, kept_lot, owned_lives, owns_counted, same_times, times_of}
+use Rattle.lot_store.proofs.StorageBlocks.{IsKeptLot, kept_lot, owned_lives, same_times, times_of}
 
 run_of : (a b : LotView) → pages_of b ≡ pages_of a → b.stored.run ≡ a.stored.run
 run_of a b pages = ap (λ (s : PagesView). s.run) pages

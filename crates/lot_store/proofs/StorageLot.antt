@@ -1,24 +1,21 @@
 -- What a call over one lot preserves, from what is told by that lot alone.
-use Rattle.std.proofs.Common.{Result, Ok, Err, OnOk, ◌≡◌, ◌≢◌, ◌⊎◌, inl, inr, ℕ, zero, suc, ◌+◌, ◌<◌, ◌≤◌, Bool, true, false, All, List, [], ◌∷◌, ◌++◌, length, Option, Some, None, refl, sym, ap, ◌∙◌, subst, arith, sum_by, is_ok}
+use Rattle.std.proofs.Common.{Result, Ok, Err, OnOk, ◌≡◌, inl, inr, ℕ, zero, suc, ◌+◌, ◌≤◌, true, false, List, [], ◌∷◌, ◌++◌, length, Option, Some, None, refl, sym, ap, ◌∙◌, subst, arith, is_ok}
 use Rattle.std.proofs.lemmas.Bool.{cases_lt, false≢true}
 use Rattle.std.proofs.lemmas.List.Elements.{All-cons, All-nil}
 use Rattle.std.proofs.lemmas.List.Sums.{sum_by-cons}
 use Rattle.segment_core.specs.Segments.{PurseView, SegmentView, count_other_size, segment_sum}
-use Rattle.flow_outside.specs.Blocks.{Blocks, BothTold, IsLive}
+use Rattle.flow_outside.specs.Blocks.{Blocks, BothTold}
 use Rattle.flow_outside.specs.Told.{IfTold}
 use Rattle.flow_types.specs.Records.{framed}
-use Rattle.page_feed.specs.Feeds.{FeedView, stopped}
+use Rattle.page_feed.specs.Feeds.{stopped}
 use Rattle.paged_view.specs.Pages.{used_bytes}
-use Rattle.spool.specs.declared.writer.RunWriter.{RunWriter}
-use Rattle.lot_store.specs.Keeping.{PutsPage as PutsInto}
 use Rattle.lot_store.specs.LotCalls.{AppendsPage, AppendsRow, KeepsContents, Reads, Writes}
 use Rattle.lot_store.specs.LotKeeping.{AddsFullPages, AddsRow, AddsText, Keeps, KeepsOthers, KeepsRows, MovesSegments, PutsPage}
 use Rattle.lot_store.specs.Lots.{IsSound, LotView, StandsWith, empty, held, pages_of}
 use Rattle.lot_store.specs.Spilling.{FreesBlocks, IsFreeOrOwn, OwnsBlock}
 use Rattle.lot_store.specs.Stores.{PagesView, held as held_stored}
-use Rattle.lot_store.specs.Storage.{IsFreeOrOwned, IsNoneOf, IsReady, Preserves, SparesBlocks, Stand, StandsAt, StaysStanding, StorageView, alone, held_count, held_sum, lot_at, owners, times_in, with_segment}
+use Rattle.lot_store.specs.Storage.{IsFreeOrOwned, IsNoneOf, IsReady, Preserves, Stand, StandsAt, StaysStanding, alone, held_sum, lot_at, owners, times_in}
 use Rattle.lot_store.proofs.SpillLemmas.{told_both}
-use Rattle.lot_store.proofs.LotLemmas.{on_ok_map}
 use Rattle.lot_store.proofs.RestLemmas.{stored_same}
 use Rattle.lot_store.proofs.Telling.{told_map, told_turn}
 use Rattle.lot_store.proofs.StorageBlocks.{counts_once, counts_own, owns_counted, times_of}

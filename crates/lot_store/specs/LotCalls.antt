@@ -1,5 +1,5 @@
 -- What the public calls over one lot say beside what they preserve. The rules are this project's own.
-use Rattle.std.specs.Prelude.{◌≡◌, ℕ, zero, suc, ◌+◌, ◌<◌, ◌≤◌, Bool, true, List, [], ◌∷◌, length, Option, Some, None, Ok, Result, IsErrOf, MatchResult, is_some}
+use Rattle.std.specs.Prelude.{◌≡◌, ℕ, ◌+◌, ◌<◌, ◌≤◌, Bool, true, List, [], ◌∷◌, length, Option, Some, None, Ok, Result, IsErrOf, MatchResult, is_some}
 use Rattle.segment_core.specs.Segments.{PurseView, SegmentView}
 use Rattle.flow_outside.specs.Blocks.{Blocks}
 use Rattle.flow_outside.specs.Causes.{HasStreamCause}
@@ -11,7 +11,7 @@ use Rattle.page_feed.specs.Feeds.{block_of, lent, most_left}
 use Rattle.spool.specs.declared.writer.RunWriter.{RunWriter}
 use Rattle.lot_store.specs.Lots.{IsRewound, LotView, pages_of}
 use Rattle.lot_store.specs.LotKeeping.{AddsFullPages, AddsRow, AddsText, KeepsRows, PutsPage}
-use Rattle.lot_store.specs.Storage.{Preserves, alone, with_segment}
+use Rattle.lot_store.specs.Storage.{Preserves, alone}
 
 -- A call writes one lot, and one that only reads it. Both are `Preserves` of the lot with its purse and its disk.
 abbrev pub Writes : (told now : Option Blocks) (purse rest : PurseView) (lot lot_now : LotView) → Type 0

@@ -1,5 +1,5 @@
 -- The pages of a lot as its writing sees them, and the bytes that they stand for. The rules are this project's own.
-use Rattle.std.specs.Prelude.{◌≡◌, ◌<◌, ◌≤◌, ℕ, All, List, ◌++◌, length, map, Option}
+use Rattle.std.specs.Prelude.{◌≡◌, ◌+◌, ◌<◌, ◌≤◌, ℕ, All, List, ◌++◌, length, map, Option}
 use Rattle.segment_core.specs.Segments.{SegmentView, count_other_size}
 use Rattle.flow_outside.specs.Blocks.{Blocks}
 use Rattle.flow_outside.specs.Told.{IfTold}
@@ -69,3 +69,8 @@ pub record IsStore (kept open_page : List SegmentView) (len capacity room : ℕ)
   pub some : 0 < count → 0 < used (page_at open_page 0)
   pub within : used (page_at open_page 0) ≤ length (body (page_at open_page 0))
   pub begun : IsBegun run
+
+-- The open page, of which there is one, has room for a framed record of so many bytes.
+pub record HasRoom (lot : PagesView) (count : ℕ) : Type 0 where
+  pub one : length lot.open_page ≡ 1
+  pub space : used (page_at lot.open_page 0) + (4 + count) ≤ length (body (page_at lot.open_page 0))

@@ -10,8 +10,8 @@ ghost use Rattle.paged_view.specs.Pages.{used_bytes};
 use crate::lot::Lot;
 use flow_outside::failure::StreamFault;
 use flow_outside::spill::Spill;
-use span_bytes::span::Span;
 use segment_core::{Purse, Segment};
+use span_bytes::span::Span;
 
 impl Lot {
     // `append`, told by this lot alone.

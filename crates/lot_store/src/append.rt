@@ -8,8 +8,8 @@ ghost use Rattle.lot_store.specs.Spilling.{HasWriteCause};
 use crate::stored::StoredPages;
 use flow_outside::failure::StreamFault;
 use flow_outside::spill::Spill;
-use span_bytes::span::Span;
 use segment_core::Purse;
+use span_bytes::span::Span;
 
 impl StoredPages {
     /// Adds a record behind the others: its length and its bytes, which go on in the next page where a page
@@ -17,8 +17,41 @@ impl StoredPages {
     /// has another segment, and else it is spilled.
     ///
     /// `Spill` only where the disk's count of faults rose in this call; what the lot stands for is then open.
-    /// It copies the record's bytes by pieces, and a page costs one write at most. It takes no memory.
+    /// It copies the record's bytes by pieces, and a page costs one write at most. It takes no memory. A record
+    /// that fits into the open page touches nothing else.
     pub(crate) fn append<X: Span, D: Spill>(
+        &mut self,
+        row: &X,
+        purse: &mut Purse,
+        disk: &mut D,
+    ) -> Result<(), StreamFault>
+        requires len { length (X.seen row.now) < 2 ^ 32 }
+        requires supply { 0 < length purse.old.pages + length self.old.open_page }
+        requires room { length purse.old.pages + length (held self.old) ≤ purse.old.room }
+        requires sound { IsSound (D.told disk.old) self.old purse.old.pages }
+        ensures cause { HasWriteCause (D.fault_count disk.old) (D.fault_count disk.new) result }
+        ensures added { OnOk result (BothTold (D.told disk.old) (D.told disk.new)
+            (AddsText self.old self.new (framed (X.seen row.now)))) }
+        ensures full { OnOk result (BothTold (D.told disk.old) (D.told disk.new)
+            (AddsFullPages self.old self.new purse.old.pages)) }
+        ensures keeps { BothTold (D.told disk.old) (D.told disk.new)
+            (Keeps self.old self.new purse.old.pages purse.new.pages) }
+        ensures sound { IsSound (D.told disk.new) self.new purse.new.pages }
+        ensures segments { MovesSegments self.old self.new purse.old.pages purse.new.pages }
+        ensures supply { OnOk result (0 < length purse.new.pages + length self.new.open_page) }
+        ensures room { purse.new.room ≡ purse.old.room }
+        ensures fits { length purse.new.pages + length (held self.new) ≤ purse.new.room }
+        ensures own { self.new.room ≡ self.old.room }
+    {
+        if self.has_room(row.len()) {
+            self.put_here(row);
+            return Ok(());
+        }
+        self.append_on(row, purse, disk)
+    }
+
+    // The same, where the record may go on in the next page.
+    fn append_on<X: Span, D: Spill>(
         &mut self,
         row: &X,
         purse: &mut Purse,

@@ -14,9 +14,9 @@ ghost use Rattle.segment_core.specs.Segments.{PurseView, segment_sum};
 use crate::stored::StoredPages;
 use flow_outside::failure::{Memory, StreamFault};
 use flow_outside::spill::Spill;
-use span_bytes::span::Span;
 use page_feed::feed::Feed;
 use segment_core::{Purse, Segment};
+use span_bytes::span::Span;
 use std::alloc::Global;
 use std::marker::Model;
 

@@ -1,10 +1,12 @@
 ghost use Rattle.std.specs.Prelude.{◌≡◌, ◌+◌, ◌-◌, ◌^◌, ◌<◌, ◌≤◌, ◌↔◌, [], ◌++◌, min, length, take, IsTrue};
+ghost use Rattle.flow_types.specs.Records.{framed};
 ghost use Rattle.paged_view.specs.Pages.{body, used_bytes, used};
 ghost use Rattle.paged_view.specs.Writing.{written};
 ghost use Rattle.spool.specs.Headers.{IsSameSegment};
 
 use paged_view::page::{HEADER_SIZE, body_of, used_bytes};
 use segment_core::Segment;
+use span_bytes::span::Span;
 
 /// Writes as many of these bytes behind the used ones of a page as it has room for. How many.
 pub(crate) fn add_bytes(page: &mut Segment, bytes: &[u8]) -> usize
@@ -71,4 +73,41 @@ pub(crate) fn has_space(page: &Segment) -> bool
     ensures { IsTrue result ↔ (used page.now < length (body page.now)) }
 {
     used_bytes(page).len() < body_of(page).len()
+}
+
+/// Whether the page has room for so many bytes more.
+pub(crate) fn has_room(page: &Segment, need: usize) -> bool
+    requires { used page.now ≤ length (body page.now) }
+    ensures { IsTrue result ↔ (used page.now + need ≤ length (body page.now)) }
+{
+    need <= body_of(page).len() - used_bytes(page).len()
+}
+
+/// Writes a record behind the used bytes of a page that has room for it, its length first. Each byte is copied once.
+pub(crate) fn add_record<X: Span>(page: &mut Segment, row: &X)
+    requires len { length (X.seen row.now) < 2 ^ 32 }
+    requires room { used page.old + (4 + length (X.seen row.now)) ≤ length (body page.old) }
+    ensures used_bytes { used_bytes page.new ≡ used_bytes page.old ++ framed (X.seen row.now) }
+    ensures used { used page.new ≡ used page.old + (4 + length (X.seen row.now)) }
+    ensures same { IsSameSegment page.old page.new }
+{
+    let len = row.len();
+    add_bytes(page, &(len as u32).to_be_bytes());
+    add_span(page, row);
+}
+
+// Writes all bytes of a record behind the used ones of a page that has room for them.
+fn add_span<X: Span>(page: &mut Segment, row: &X)
+    requires { used page.old + length (X.seen row.now) ≤ length (body page.old) }
+    ensures used_bytes { used_bytes page.new ≡ used_bytes page.old ++ X.seen row.now }
+    ensures used { used page.new ≡ used page.old + length (X.seen row.now) }
+    ensures same { IsSameSegment page.old page.new }
+{
+    let len = row.len();
+    let mut at = 0;
+    'pieces: while at < len {
+        let piece = row.piece(at);
+        add_bytes(page, piece);
+        at += piece.len();
+    }
 }

@@ -1,22 +1,25 @@
-ghost use Rattle.std.specs.Prelude.{◌≡◌, All, ℕ, ◌+◌, ◌<◌, ◌≤◌, ◌↔◌, [], ◌∷◌, ◌++◌, None, IfOk, OnOk, OnErr, IfSome, IsTrue, length, option_to_list, vec_len, vec_capacity};
+ghost use Rattle.std.specs.Prelude.{◌≡◌, All, ℕ, ◌+◌, ◌^◌, ◌<◌, ◌≤◌, ◌↔◌, [], ◌∷◌, ◌++◌, None, IfOk, OnOk, OnErr, IfSome, IsTrue, length, option_to_list, vec_len, vec_capacity};
 ghost use Rattle.lot_store.specs.Keeping.{MovesSegments};
 ghost use Rattle.segment_core.specs.Segments.{segment_sum};
 ghost use Rattle.flow_outside.specs.Blocks.{BothTold};
 ghost use Rattle.flow_outside.specs.Told.{IfTold};
 ghost use Rattle.lot_store.specs.LotCalls.{spilled_count};
-ghost use Rattle.lot_store.specs.Stores.{ArePages, held};
+ghost use Rattle.flow_types.specs.Records.{framed};
+ghost use Rattle.lot_store.specs.Stores.{ArePages, HasRoom, held};
 ghost use Rattle.lot_store.specs.Spilling.{HasWriteCause, IsLonger, IsSpilled, IsUnchanged};
 ghost use Rattle.lot_store.specs.Reads.{HandsOver};
 ghost use Rattle.page_feed.specs.Feeds.{IsStarted, kept_in, open_page_in, lent, stopped};
-ghost use Rattle.paged_view.specs.Pages.{body, page_at, used_bytes, used};
+ghost use Rattle.paged_view.specs.Pages.{all_used_bytes, body, page_at, used_bytes, used};
 ghost use Rattle.spool.specs.Headers.{IsSameSegment};
 
 use crate::handing::{give_pages, reader_of, take_pages};
+use crate::page::{add_record, has_room};
 use crate::spill::spill;
 use flow_outside::failure::{Memory, StreamFault};
 use flow_outside::spill::Spill;
 use page_feed::feed::Feed;
 use segment_core::{Purse, Segment};
+use span_bytes::span::Span;
 use spool::writer::RunWriter;
 use std::alloc::Global;
 use std::marker::Model;
@@ -118,6 +121,28 @@ impl StoredPages {
         ensures own { self.new.room ≡ self.old.room }
     {
         spill(&mut self.run, disk, page)
+    }
+
+    /// Whether the open page has room for a record of so many bytes.
+    pub(crate) fn has_room(&self, len: usize) -> bool
+        requires { len < 2 ^ 32 }
+        ensures { IsTrue result → HasRoom self.now len }
+    {
+        self.open_page.len() > 0 && has_room(&self.open_page[0], 4 + len)
+    }
+
+    /// Adds a record to the open page, which has room for it.
+    pub(crate) fn put_here<X: Span>(&mut self, row: &X)
+        requires len { length (X.seen row.now) < 2 ^ 32 }
+        requires room { HasRoom self.old (length (X.seen row.now)) }
+        ensures added { all_used_bytes self.new.open_page ≡ all_used_bytes self.old.open_page ++ framed (X.seen row.now) }
+        ensures one { length self.new.open_page ≡ 1 }
+        ensures kept { self.new.kept ≡ self.old.kept }
+        ensures run { self.new.run ≡ self.old.run }
+        ensures own { self.new.room ≡ self.old.room }
+        ensures segments { (h : ℕ → ℕ → ℕ) → segment_sum h self.new.open_page ≡ segment_sum h self.old.open_page }
+    {
+        add_record(&mut self.open_page[0], row);
     }
 
     /// How many pages were spilled.

@@ -6,3 +6,4 @@ pub mod ShowLemmas
 pub mod LoopLemmas
 pub mod ListLemmas
 pub mod LawLemmas
+pub mod RunStreamLemmas

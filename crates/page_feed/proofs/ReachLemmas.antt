@@ -1,5 +1,5 @@
 -- Lemmas on the sizes of pages, and on how many of them a record touches.
-use Rattle.std.proofs.Common.{◌≡◌, ℕ, zero, suc, ◌+◌, ◌-◌, ◌<◌, ◌≤◌, true, false, cond, nat_lt, nat_le, List, [], ◌∷◌, ◌++◌, map, length, refl, sym, ap, ◌∙◌, arith, length-append, inl, inr}
+use Rattle.std.proofs.Common.{◌≡◌, ℕ, zero, suc, ◌+◌, ◌-◌, ◌<◌, ◌≤◌, true, false, cond, nat_lt, nat_le, List, [], ◌∷◌, ◌++◌, map, length, refl, sym, ap, ◌∙◌, arith, length-append, inl, inr, subst}
 use Rattle.std.proofs.lemmas.Bool.{cases_lt}
 use Rattle.std.proofs.lemmas.Bool.Decides.{nat_tests}
 use Rattle.std.proofs.lemmas.Grind.{flat_map-append}
@@ -8,7 +8,7 @@ use Rattle.paged_view.specs.Pages.{used_bytes, all_used_bytes}
 use Rattle.paged_view.specs.Reading.{has_spent}
 use Rattle.spool.specs.Headers.{as_page}
 use Rattle.spool.specs.Runs.{joined}
-use Rattle.page_feed.specs.Reach.{behind, sizes_of, touched}
+use Rattle.page_feed.specs.Reach.{IsWithinReach, behind, sizes_of, touched}
 
 -- how many bytes pages of these sizes have
 abbrev pub total : List ℕ → ℕ
@@ -98,3 +98,26 @@ behind-behind n count (size ∷ sizes) = elim (cases_lt count size) [
   ]
   | inr past ↦ ap (behind n) (behind_past count size sizes past) ∙ behind-behind n (count - size) sizes ∙ ap (λ k. behind k sizes) (let e : count - size + n ≡ count + n - size = omega (arith, past) in e) ∙ sym (behind_past (count + n) size sizes (omega (arith, past)))
 ]
+
+-- An empty page is touched, and nothing of it is behind.
+touched_empty : (k : ℕ) (sizes : List ℕ) → touched k sizes ≤ touched k (0 ∷ sizes)
+touched_empty zero sizes = omega arith
+touched_empty (suc n) sizes =
+    let same : suc n - 0 ≡ suc n = omega arith in
+    omega (arith, ap (λ k. touched k sizes) same)
+
+behind_empty : (k : ℕ) (sizes : List ℕ) → behind k (0 ∷ sizes) ≡ behind k sizes
+behind_empty k sizes =
+    let same : k - 0 ≡ k = omega arith in
+    behind_past k 0 sizes (omega arith) ∙ ap (λ n. behind n sizes) same
+
+-- Empty pages before the first byte are behind it at once.
+pub reach_first : (reach : ℕ) (sizes : List ℕ) (rows : List (List ℕ)) → IsWithinReach reach sizes rows → IsWithinReach reach (behind 0 sizes) rows
+reach_first reach [] rows within = within
+reach_first reach (zero ∷ sizes) [] within = tt
+reach_first reach (zero ∷ sizes) (row ∷ rows) (first, rest) =
+    let fewer : touched (4 + length row) sizes ≤ reach = omega (arith, touched_empty (4 + length row) sizes, first) in
+    reach_first reach sizes (row ∷ rows) (fewer, subst (λ left. IsWithinReach reach left rows) (behind_empty (4 + length row) sizes) rest)
+reach_first reach (suc size ∷ sizes) rows within =
+    let same : suc size - 0 ≡ suc size = omega arith in
+    subst (λ left. IsWithinReach reach left rows) (sym (behind_within 0 (suc size) sizes (omega arith) ∙ ap (λ n. n ∷ sizes) same)) within

@@ -11,3 +11,4 @@ mod give;
 pub mod laws;
 mod lists;
 mod moves;
+pub mod run_stream;
