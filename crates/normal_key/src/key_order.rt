@@ -122,12 +122,16 @@ pub(crate) fn compare<X: Span>(a: &X, b: &X, order: &KeyOrder<'_>) -> Ordering
     compare_in(a, b, order)
 }
 
-/// The same of records in one piece.
+/// The same of records in one piece. Where whole rows are compared, records whose bytes are the same are
+/// looked at by their bytes alone.
 fn compare_slices(a: &[u8], b: &[u8], order: &KeyOrder<'_>) -> Ordering
     requires a_fits { IsTrue (is_record order.now.schema.now a.now) }
     requires b_fits { IsTrue (is_record order.now.schema.now b.now) }
     ensures { result ≡ bytes_cmp order.now.schema.now order.now.key.now order.now.items.now order.now.whole a.now b.now }
 {
+    if order.whole && a == b {
+        return Ordering::Equal;
+    }
     compare_in(&a, &b, order)
 }
 
