@@ -79,14 +79,14 @@ impl RecordOrder for KeyOrder<'_> {
 }
 
 /// Whether bytes are a record of the schema. Each byte is read once.
-pub(crate) fn fits<X: Span>(row: &X, schema: &Schema) -> bool
+pub fn fits<X: Span>(row: &X, schema: &Schema) -> bool
     ensures { result ≡ is_record schema.now (X.seen row.now) }
 {
     check_bytes(row, schema)
 }
 
 /// The first 16 bytes of what the order compares. No field is sought once they are full.
-pub(crate) fn prefix<X: Span>(row: &X, order: &KeyOrder<'_>) -> [u8; 16]
+pub fn prefix<X: Span>(row: &X, order: &KeyOrder<'_>) -> [u8; 16]
     requires { IsTrue (is_record order.now.schema.now (X.seen row.now)) }
     ensures { result ≡ bytes_prefix order.now.schema.now order.now.key.now order.now.items.now order.now.whole (X.seen row.now) }
 {
@@ -109,7 +109,7 @@ fn prefix_in<X: Span>(row: &X, order: &KeyOrder<'_>) -> [u8; 16]
 }
 
 /// Which record stands first: field by field, up to the first that differs.
-pub(crate) fn compare<X: Span>(a: &X, b: &X, order: &KeyOrder<'_>) -> Ordering
+pub fn compare<X: Span>(a: &X, b: &X, order: &KeyOrder<'_>) -> Ordering
     requires a_fits { IsTrue (is_record order.now.schema.now (X.seen a.now)) }
     requires b_fits { IsTrue (is_record order.now.schema.now (X.seen b.now)) }
     ensures { result ≡ bytes_cmp order.now.schema.now order.now.key.now order.now.items.now order.now.whole (X.seen a.now) (X.seen b.now) }
