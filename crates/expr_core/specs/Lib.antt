@@ -2,4 +2,3 @@ pub mod Places
 pub mod Needs
 pub mod Joined
 pub mod Laws
-pub mod Known

@@ -9,8 +9,6 @@
 mod columns;
 mod eval;
 pub mod evaluate;
-#[cfg(test)]
-mod known;
 pub mod laws;
 mod operation;
 pub mod scratch;

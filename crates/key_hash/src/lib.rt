@@ -7,5 +7,5 @@
 #![tactic(auto)]
 
 mod fields;
-mod fnv;
+pub mod fnv;
 pub mod hash;

@@ -1,7 +1,7 @@
 -- Bytes written behind others, of which the first 16 are kept.
-use Rattle.std.proofs.Common.{◌≡◌, ℕ, zero, suc, ◌+◌, ◌<◌, ◌≤◌, false, List, [], ◌∷◌, ◌++◌, length, map, take, slice_index, slice_set, slice_index_or, replicate, refl, sym, ◌∙◌, ap, subst, arith, append_assoc, length-append}
+use Rattle.std.proofs.Common.{◌≡◌, ℕ, zero, suc, ◌+◌, ◌-◌, ◌<◌, ◌≤◌, false, List, [], ◌∷◌, ◌++◌, length, map, take, drop, slice_index, slice_set, slice_index_or, replicate, refl, sym, ◌∙◌, ap, subst, arith, append_assoc, length-append}
 use Rattle.std.specs.List.{flat_map}
-use Rattle.std.proofs.lemmas.List.{append-nil, take-append-le, take_more, length-take-le, map_more}
+use Rattle.std.proofs.lemmas.List.{append-nil, take-append-le, take_more, length-take-le, map_more, take-replicate, drop-replicate, take_at, drop_at, drop-drop}
 use Rattle.std.proofs.lemmas.List.Concat.{flat_map-append}
 use Rattle.flow_types.specs.declared.order_item.OrderItem.{OrderItem}
 use Rattle.flow_types.specs.Tuples.{Tuple, field}
@@ -74,6 +74,45 @@ pushed_is bytes len y long low = take_set len y bytes (omega (arith, long))
 pub pushed_filled : (bytes : List ℕ) (len y : ℕ) → length bytes ≡ 16 → len < 16 → bytes ≡ filled (take len bytes)
     → slice_set bytes len y ≡ filled (take (len + 1) (slice_set bytes len y))
 pushed_filled bytes len y long low is = filled_more bytes len y long low is ∙ ap filled (sym (pushed_is bytes len y long low))
+
+-- ---- several bytes at once
+
+-- bytes that are filled are they and zero bytes
+zeros_behind : (n m : ℕ) (xs : List ℕ) → length xs ≤ n → n ≤ length xs + m → take n (xs ++ replicate m 0) ≡ xs ++ replicate (n - length xs) 0
+zeros_behind n m [] long low =
+    let all : n - 0 ≡ n = omega arith in
+    take-replicate n m 0 (omega arith) ∙ ap (λ (k : ℕ). replicate k 0) (sym all)
+zeros_behind zero m (x ∷ xs) long low = absurd (omega arith)
+zeros_behind (suc n) m (x ∷ xs) long low =
+    let rest : suc n - length (x ∷ xs) ≡ n - length xs = omega arith in
+    ap (λ (bs : List ℕ). x ∷ bs) (zeros_behind n m xs (omega arith) (omega arith)) ∙ ap (λ (k : ℕ). (x ∷ xs) ++ replicate k 0) (sym rest)
+
+pub extended_is : (bytes more new : List ℕ) (len : ℕ) → length bytes ≡ 16 → len + length more ≤ 16
+    → new ≡ take len bytes ++ more ++ drop (len + length more) bytes → take (len + length more) new ≡ take len bytes ++ more
+extended_is bytes more new len long fits is =
+    let xs : List ℕ = take len bytes ++ more in
+    let count : length xs ≡ len + length more = omega (arith, length-append (take len bytes) more, length-take-le len bytes (omega arith)) in
+    ap (take (len + length more)) is ∙ take_at xs (drop (len + length more) bytes) (len + length more) count
+
+pub extended_filled : (bytes more new : List ℕ) (len : ℕ) → length bytes ≡ 16 → len + length more ≤ 16 → bytes ≡ filled (take len bytes)
+    → new ≡ take len bytes ++ more ++ drop (len + length more) bytes → new ≡ filled (take (len + length more) new)
+extended_filled bytes more new len long fits was is =
+    let front_is : List ℕ = take len bytes in
+    let xs : List ℕ = front_is ++ more in
+    let n : ℕ = length more in
+    let few : length front_is ≡ len = length-take-le len bytes (omega arith) in
+    let count : length xs ≡ len + n = omega (arith, length-append front_is more) in
+    let zeros : bytes ≡ front_is ++ replicate (16 - length front_is) 0 = was ∙ zeros_behind 16 16 front_is (omega arith) (omega arith) in
+    let left : 16 - length front_is - n ≡ 16 - length xs = omega arith in
+    let behind : drop (len + n) bytes ≡ replicate (16 - length xs) 0 =
+    sym (drop-drop n len bytes)
+    ∙ ap (drop n) (ap (drop len) zeros ∙ drop_at front_is (replicate (16 - length front_is) 0) len few)
+    ∙ drop-replicate n (16 - length front_is) 0
+    ∙ ap (λ (k : ℕ). replicate k 0) left in
+    is
+    ∙ ap (λ (bs : List ℕ). xs ++ bs) behind
+    ∙ sym (zeros_behind 16 16 xs (omega arith) (omega arith))
+    ∙ ap filled (sym (extended_is bytes more new len long fits is))
 
 -- ---- lists
 

@@ -79,14 +79,14 @@ impl RecordOrder for KeyOrder<'_> {
 }
 
 /// Whether bytes are a record of the schema. Each byte is read once.
-pub(crate) fn fits<X: Span>(row: &X, schema: &Schema) -> bool
+pub fn fits<X: Span>(row: &X, schema: &Schema) -> bool
     ensures { result ≡ is_record schema.now (X.seen row.now) }
 {
     check_bytes(row, schema)
 }
 
 /// The first 16 bytes of what the order compares. No field is sought once they are full.
-pub(crate) fn prefix<X: Span>(row: &X, order: &KeyOrder<'_>) -> [u8; 16]
+pub fn prefix<X: Span>(row: &X, order: &KeyOrder<'_>) -> [u8; 16]
     requires { IsTrue (is_record order.now.schema.now (X.seen row.now)) }
     ensures { result ≡ bytes_prefix order.now.schema.now order.now.key.now order.now.items.now order.now.whole (X.seen row.now) }
 {
@@ -109,7 +109,7 @@ fn prefix_in<X: Span>(row: &X, order: &KeyOrder<'_>) -> [u8; 16]
 }
 
 /// Which record stands first: field by field, up to the first that differs.
-pub(crate) fn compare<X: Span>(a: &X, b: &X, order: &KeyOrder<'_>) -> Ordering
+pub fn compare<X: Span>(a: &X, b: &X, order: &KeyOrder<'_>) -> Ordering
     requires a_fits { IsTrue (is_record order.now.schema.now (X.seen a.now)) }
     requires b_fits { IsTrue (is_record order.now.schema.now (X.seen b.now)) }
     ensures { result ≡ bytes_cmp order.now.schema.now order.now.key.now order.now.items.now order.now.whole (X.seen a.now) (X.seen b.now) }
@@ -122,12 +122,16 @@ pub(crate) fn compare<X: Span>(a: &X, b: &X, order: &KeyOrder<'_>) -> Ordering
     compare_in(a, b, order)
 }
 
-/// The same of records in one piece.
+/// The same of records in one piece. Where whole rows are compared, records whose bytes are the same are
+/// looked at by their bytes alone.
 fn compare_slices(a: &[u8], b: &[u8], order: &KeyOrder<'_>) -> Ordering
     requires a_fits { IsTrue (is_record order.now.schema.now a.now) }
     requires b_fits { IsTrue (is_record order.now.schema.now b.now) }
     ensures { result ≡ bytes_cmp order.now.schema.now order.now.key.now order.now.items.now order.now.whole a.now b.now }
 {
+    if order.whole && a == b {
+        return Ordering::Equal;
+    }
     compare_in(&a, &b, order)
 }
 

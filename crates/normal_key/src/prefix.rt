@@ -1,4 +1,4 @@
-ghost use Rattle.std.specs.Prelude.{◌≡◌, nat_le, [], ◌∷◌, length};
+ghost use Rattle.std.specs.Prelude.{◌≡◌, ◌+◌, ◌≤◌, ◌++◌, nat_le, [], ◌∷◌, length, take, drop};
 ghost use Rattle.normal_key.specs.NormalForms.{Adds, filled};
 
 use std::marker::Model;
@@ -50,10 +50,35 @@ impl Prefix {
         }
     }
 
+    /// How many bytes there are.
+    pub(crate) fn len(&self) -> usize
+        ensures value { result ≡ length self.now }
+        ensures most { result ≤ 16 }
+    {
+        self.len
+    }
+
+    /// Adds bytes at once, where all of them fit.
+    pub(crate) fn extend(&mut self, more: &[u8])
+        requires { length self.old + length more.now ≤ 16 }
+        ensures { Adds self.old self.new more.now }
+    {
+        put(&mut self.bytes, self.len, more);
+        self.len += more.len();
+    }
+
     /// The bytes, filled with zero bytes up to 16.
     pub(crate) fn into_bytes(self) -> [u8; 16]
         ensures { result ≡ filled self }
     {
         self.bytes
     }
+}
+
+/// Writes bytes over others from a place on.
+fn put(out: &mut [u8], start: usize, bytes: &[u8])
+    requires { start + length bytes.now ≤ length out.old }
+    ensures { out.new ≡ take start out.old ++ bytes.now ++ drop (start + length bytes.now) out.old }
+{
+    out[start..start + bytes.len()].copy_from_slice(bytes);
 }

@@ -119,6 +119,10 @@ fn write_escaped(prefix: &mut Prefix, byte: u8, down: bool)
 fn write_bytes(prefix: &mut Prefix, bytes: &[u8], down: bool)
     ensures { Adds prefix.old prefix.new (map (turned down) bytes.now) }
 {
+    if !down && bytes.len() <= 16 - prefix.len() {
+        prefix.extend(bytes);
+        return;
+    }
     for byte in bytes {
         prefix.push(turn(*byte, down));
     }

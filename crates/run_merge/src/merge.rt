@@ -1,4 +1,9 @@
-ghost use Rattle.std.specs.Prelude.{◌≡◌, None};
+ghost use Rattle.std.specs.Prelude.{◌≡◌, ◌<◌, ◌≤◌, ℕ, All, None, Ok, true, IfOk, IsErrOf, MatchResult, is_some, length, sum_by};
+ghost use Rattle.std.specs.List.{flat_map};
+ghost use Rattle.flow_outside.specs.Causes.{HasStreamCause};
+ghost use Rattle.segment_core.specs.Segments.{segment_sum};
+ghost use Rattle.paged_view.specs.Streams.{Advances, KnowsRows};
+ghost use Rattle.run_merge.specs.Merging.{Merges, Rows, WaitsFitting, block_at, most_of, shown_at, yields};
 
 use crate::streams::Streams;
 use flow_outside::failure::StreamFault;
@@ -70,7 +75,32 @@ impl<D: Spill, R: RecordStream<D>, O: RecordOrder> RecordStream<D> for Merge<'_,
 
     ghost held = { λ m. flat_map (λ s. R.held s.stream) m.sources };
 
-    fn advance(&mut self, disk: &mut D) -> Result<bool, StreamFault> {
+    /// As the trait has it; the streams stay as many as they were.
+    fn advance(&mut self, disk: &mut D) -> Result<bool, StreamFault>
+        requires ready { All (λ s. R.IsReady s.stream) self.old.sources
+            × All (WaitsFitting (O.is_fit self.old.order) (O.prefix_of self.old.order) R.shown) self.old.sources }
+        requires known { KnowsRows (D.told disk.old)
+            (Merges (O.cmp self.old.order) (yields (O.cmp self.old.order) (O.is_fit self.old.order) R.shown R.left (D.told disk.old)) self.old.sources) }
+        ensures ready { All (λ s. R.IsReady s.stream) self.new.sources
+            × All (WaitsFitting (O.is_fit self.new.order) (O.prefix_of self.new.order) R.shown) self.new.sources }
+        ensures rows { IfOk result (λ more. (rows : Rows) →
+            Merges (O.cmp self.old.order) (yields (O.cmp self.old.order) (O.is_fit self.old.order) R.shown R.left (D.told disk.old)) self.old.sources rows →
+            Advances rows more (shown_at R.shown self.new.sources self.new.shown)
+            (Merges (O.cmp self.new.order) (yields (O.cmp self.new.order) (O.is_fit self.new.order) R.shown R.left (D.told disk.new)) self.new.sources)) }
+        ensures shows { MatchResult result
+            (λ more. is_some (shown_at R.shown self.new.sources self.new.shown) ≡ more)
+            (λ _. shown_at R.shown self.new.sources self.new.shown ≡ None) }
+        ensures later { sum_by (most_of R.shown R.most_left) self.new.sources ≤ sum_by (most_of R.shown R.most_left) self.old.sources }
+        ensures falls { result ≡ Ok true → sum_by (most_of R.shown R.most_left) self.new.sources < sum_by (most_of R.shown R.most_left) self.old.sources }
+        ensures segments { (h : ℕ → ℕ → ℕ) → segment_sum h (flat_map (λ s. R.held s.stream) self.new.sources)
+            ≡ segment_sum h (flat_map (λ s. R.held s.stream) self.old.sources) }
+        ensures tells { D.told disk.new ≡ D.told disk.old }
+        ensures counted { D.given disk.new ≡ D.given disk.old }
+        ensures damaged { (block : ℕ) → IsErrOf result (StreamFault.Damaged block) → block ≡ block_at R.block_read self.new.sources self.new.shown }
+        ensures cause { HasStreamCause (D.fault_count disk.old) (D.fault_count disk.new) (D.told disk.old) result }
+        ensures count { length self.new.sources ≡ length self.old.sources }
+        ensures room { self.new.room ≡ self.old.room }
+    {
         self.shown = None;
         self.shown = self.streams.take_least(self.order, disk)?;
         Ok(self.shown.is_some())

@@ -1,5 +1,5 @@
+use crate::known::{are_columns, is_test};
 use expr_core::evaluate::{columns_into, test};
-use expr_core::known::{are_columns, is_test};
 use expr_core::scratch::Scratch;
 use flow_types::expr::{BinOp, Expr, UnOp};
 use flow_types::field_type::FieldType;

@@ -5,3 +5,5 @@
 mod exprs;
 #[cfg(test)]
 mod folds;
+#[cfg(test)]
+mod known;

@@ -13,6 +13,7 @@ use paged_view::order::RecordOrder;
 use paged_view::record_ref::RecordRef;
 use paged_view::share::Share;
 use paged_view::stream::RecordStream;
+use span_bytes::span::Span;
 use std::cmp::Ordering;
 
 /// The framed records of a slice, as a stream that calls no disk.

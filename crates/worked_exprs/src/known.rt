@@ -1,10 +1,10 @@
-// For tests alone: an expression's type and extent, told by a walk over it. `test` and `columns_into` may be
-// called where it tells that their conditions hold.
+// An expression's type and extent, told by a walk over it. `test` and `columns_into` may be called where it
+// tells that their conditions hold.
 ghost use Rattle.std.specs.Prelude.{◌≡◌, ◌≤◌, ◌&&◌, IfSome, IsTrue, Some, slice_get};
 ghost use Rattle.flow_types.specs.Limits.{record_limit};
 ghost use Rattle.flow_types.specs.ExprTypes.{type_of, typing_of, is_limited, type_of_value, type_of_one, type_of_two, type_of_choice, type_of_cut, widened};
 ghost use Rattle.expr_core.specs.Needs.{is_typed, are_typed, width_of_type, widest_of};
-ghost use Rattle.expr_core.specs.Known.{IsKnown, IsTold};
+ghost use Rattle.worked_exprs.specs.Known.{IsKnown, IsTold};
 
 use flow_types::expr::{BinOp, Expr, UnOp};
 use flow_types::field_type::FieldType;

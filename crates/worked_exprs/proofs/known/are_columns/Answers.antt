@@ -1,6 +1,6 @@
 use Rattle.std.proofs.Common.{arith}
 use Rattle.expr_core.proofs.ColumnLemmas.{checked_more}
-use Rattle.expr_core.proofs.known.are_columns.Goals as goal
+use Rattle.worked_exprs.proofs.known.are_columns.Goals as goal
 
 pub loop-column-preserved : goal.loop-column-preserved
 loop-column-preserved c =
