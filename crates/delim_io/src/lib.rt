@@ -14,5 +14,3 @@ pub mod input_kind;
 pub mod plain_line;
 pub mod result_text;
 pub mod row_writer;
-#[cfg(test)]
-mod tests;

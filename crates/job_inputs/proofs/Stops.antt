@@ -6,6 +6,7 @@ use Rattle.std.proofs.lemmas.Slice.Eq.{bytes_eq-Decides}
 use Rattle.std.proofs.lemmas.List.{drop_more, take-append-drop}
 use Rattle.std.proofs.lemmas.List.Elements.{filter_more, filter-append}
 use Rattle.flow_outside.specs.Causes.{Rose}
+use Rattle.flow_outside.specs.Files.{Files, IfFileTold}
 use Rattle.flow_types.specs.Tuples.{Tuple}
 use Rattle.flow_model.specs.declared.plan.Node.{Node}
 use Rattle.flow_model.specs.Algebra.{is_source}
@@ -13,15 +14,15 @@ use Rattle.job_words.specs.Words.{Binding}
 use Rattle.job_report.specs.declared.fault.Fault.{Fault}
 use Rattle.job_report.specs.declared.fault.Fault.TheVariants as fault
 use Rattle.job_inputs.specs.Sources.{binding_at, first_unbound}
-use Rattle.job_inputs.specs.Inputs.{Files, path_in, path_of, HasRows, HaveRows, StopsAt}
+use Rattle.job_inputs.specs.Inputs.{path_in, path_of, HasRows, HaveRows, StopsAt}
 use Rattle.job_inputs.specs.InputEnds.{EndsReadingInput, StopsReading, EndsReadingInputs}
 
 abbrev pub sources : List Node → List Node
 sources nodes = filter (λ (node : Node). is_source node.op) nodes
 
 -- one source more
-pub have_more : (files : Files) (bs : List Binding) (front : List Node) (source : Node) (lists : List (List Tuple)) (rows : List Tuple)
-    → HaveRows files bs front lists → HasRows files bs source rows → HaveRows files bs (front ++ source ∷ []) (lists ++ rows ∷ [])
+pub have_more : (files : Option Files) (bs : List Binding) (front : List Node) (source : Node) (lists : List (List Tuple)) (rows : List Tuple)
+    → HaveRows files bs front lists → HasRows files (path_of bs source) source rows → HaveRows files bs (front ++ source ∷ []) (lists ++ rows ∷ [])
 have_more files bs [] source [] rows h r = (r, tt)
 have_more files bs [] source (x ∷ xs) rows h r = absurd h
 have_more files bs (n ∷ ns) source [] rows h r = absurd h
@@ -43,15 +44,15 @@ nothing_more : (xs : List Node) → xs ++ [] ≡ xs
 nothing_more [] = refl
 nothing_more (x ∷ xs) = ap (λ ys. x ∷ ys) (nothing_more xs)
 
-pub rows_on : (files files' : Files) (bs : List Binding) (nodes : List Node) (i : ℕ) (x : Node) (lists lists' : List (List Tuple)) (rows : List Tuple)
+pub rows_on : (files files' : Option Files) (bs : List Binding) (nodes : List Node) (i : ℕ) (x : Node) (lists lists' : List (List Tuple)) (rows : List Tuple)
     → i < length nodes → x ≡ get_or nodes i x → is_source x.op ≡ true → files' ≡ files → HaveRows files bs (sources (take i nodes)) lists
-    → HasRows files' bs x rows → lists' ≡ lists ++ rows ∷ [] → HaveRows files bs (sources (take (i + 1) nodes)) lists'
+    → HasRows files' (path_of bs x) x rows → lists' ≡ lists ++ rows ∷ [] → HaveRows files bs (sources (take (i + 1) nodes)) lists'
 rows_on files files' bs nodes i x lists lists' rows low at is same have has more =
     subst (λ (ls : List (List Tuple)). HaveRows files bs (sources (take (i + 1) nodes)) ls) (sym more)
     (subst (λ (ss : List Node). HaveRows files bs ss (lists ++ rows ∷ [])) (sym (taken_on nodes i x true low at is))
-    (have_more files bs (sources (take i nodes)) x lists rows have (subst (λ (f : Files). HasRows f bs x rows) same has)))
+    (have_more files bs (sources (take i nodes)) x lists rows have (subst (λ (f : Option Files). HasRows f (path_of bs x) x rows) same has)))
 
-pub rows_stay : (files : Files) (bs : List Binding) (nodes : List Node) (i : ℕ) (x : Node) (lists lists' : List (List Tuple))
+pub rows_stay : (files : Option Files) (bs : List Binding) (nodes : List Node) (i : ℕ) (x : Node) (lists lists' : List (List Tuple))
     → i < length nodes → x ≡ get_or nodes i x → is_source x.op ≡ false → HaveRows files bs (sources (take i nodes)) lists
     → lists' ≡ lists → HaveRows files bs (sources (take (i + 1) nodes)) lists'
 rows_stay files bs nodes i x lists lists' low at is have stay =
@@ -85,19 +86,19 @@ rose_from : (a b c : ℕ) → a ≤ b → Rose b c → Rose a c
 rose_from a b c h r = omega arith
 
 -- the first source that gives no rows is where the reading of all stops
-pub ends_at : (files files' : Files) (bs : List Binding) (nodes : List Node) (i : ℕ) (x : Node) (lists : List (List Tuple)) (before middle after : List ℕ → ℕ) (name : List ℕ) (why : Fault)
+pub ends_at : (files files' : Option Files) (bs : List Binding) (nodes : List Node) (i : ℕ) (x : Node) (lists : List (List Tuple)) (before middle after : List ℕ → ℕ) (name : List ℕ) (why : Fault)
     → i < length nodes → x ≡ get_or nodes i x → is_source x.op ≡ true → HaveRows files bs (sources (take i nodes)) lists
     → files' ≡ files → ((k : List ℕ) → before k ≤ middle k)
     → StopsReading files' bs x middle after name why → EndsReadingInputs files bs (sources nodes) before after name why
 ends_at files files' bs nodes i x lists before middle after name why low at is have same up stop = by why named ends
   where
     here : StopsReading files bs x middle after name why
-    here = subst (λ (f : Files). StopsReading f bs x middle after name why) same stop
+    here = subst (λ (f : Option Files). StopsReading f bs x middle after name why) same stop
 
     named : name ≡ x.name
     named = here.named
 
-    ends : EndsReadingInput x (files (path_of bs x)) (middle (path_of bs x)) (after (path_of bs x)) why
+    ends : EndsReadingInput x files (path_of bs x) (middle (path_of bs x)) (after (path_of bs x)) why
     ends = here.ends
 
     stops : StopsAt files bs (sources nodes) x
@@ -111,7 +112,7 @@ ends_at files files' bs nodes i x lists before middle after name why low at is h
       read = have;
     }
 
-    by : (f : Fault) → name ≡ x.name → EndsReadingInput x (files (path_of bs x)) (middle (path_of bs x)) (after (path_of bs x)) f
+    by : (f : Fault) → name ≡ x.name → EndsReadingInput x files (path_of bs x) (middle (path_of bs x)) (after (path_of bs x)) f
         → EndsReadingInputs files bs (sources nodes) before after name f
     by fault.Usage n e = absurd e
     by (fault.PlanRefused node code) n e = absurd e
@@ -140,9 +141,14 @@ found_name [] name b h = cc
 found_name (x ∷ xs) name b h = same_name (bytes_eq x.name name) x b (binding_at xs name) name refl (found_name xs name b) h
 
 -- the binding of a source that gives no rows
-pub stops_reading : (files : Files) (bs : List Binding) (source : Node) (before after : List ℕ → ℕ) (b : Binding) (why : Fault) → binding_at bs source.name ≡ Some b
-    → EndsReadingInput source (files b.path) (before b.path) (after b.path) why → StopsReading files bs source before after b.name why
+pub stops_reading : (files : Option Files) (bs : List Binding) (source : Node) (before after : List ℕ → ℕ) (b : Binding) (why : Fault) → binding_at bs source.name ≡ Some b
+    → EndsReadingInput source files b.path (before b.path) (after b.path) why → StopsReading files bs source before after b.name why
 stops_reading files bs source before after b why found ends = record {
   named = found_name bs source.name b found;
-  ends = subst (λ (o : Option Binding). EndsReadingInput source (files (path_in o)) (before (path_in o)) (after (path_in o)) why) (sym found) ends;
+  ends = subst (λ (o : Option Binding). EndsReadingInput source files (path_in o) (before (path_in o)) (after (path_in o)) why) (sym found) ends;
 }
+
+-- the rows of a source in the file that it is bound to
+pub bound_rows : (files : Option Files) (bs : List Binding) (source : Node) (b : Binding) (rows : List Tuple) → binding_at bs source.name ≡ Some b
+    → HasRows files b.path source rows → HasRows files (path_of bs source) source rows
+bound_rows files bs source b rows found has = subst (λ (o : Option Binding). HasRows files (path_in o) source rows) (sym found) has

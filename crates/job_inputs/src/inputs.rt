@@ -1,12 +1,12 @@
-ghost use Rattle.std.specs.Prelude.{◌≡◌, ℕ, ◌<◌, ◌≤◌, List, [], ◌∷◌, ◌++◌, filter, None, Some, IsTrue, is_some, IfOk, IfErr, OnOk};
-ghost use Rattle.flow_outside.specs.Told.{IfTold};
+ghost use Rattle.std.specs.Prelude.{◌≡◌, ℕ, ◌<◌, ◌≤◌, List, [], ◌∷◌, ◌++◌, filter, None, Some, IsTrue, is_some, IfOk, IfErr, OnOk, All};
 ghost use Rattle.flow_types.specs.Tuples.{Tuple};
+ghost use Rattle.flow_types.specs.Records.{IsTupleOf};
 ghost use Rattle.flow_model.specs.declared.plan.Node.{Node};
 ghost use Rattle.flow_model.specs.Algebra.{is_source};
 ghost use Rattle.job_words.specs.Requests.{all_bound};
 ghost use Rattle.job_inputs.specs.Sources.{binding_at, first_unbound, sources_of};
 ghost use Rattle.job_inputs.specs.Inputs.{path_of, input_rows, HasRows, HaveRows};
-ghost use Rattle.job_inputs.specs.InputEnds.{EndsReadingInput, StopsReading, EndsReadingInputs};
+ghost use Rattle.job_inputs.specs.InputEnds.{everywhere, EndsReadingInput, StopsReading, EndsReadingInputs};
 
 use crate::sources::binding_at;
 use delim_io::first_form::{INPUT_LIMIT, read_packed};
@@ -102,7 +102,7 @@ fn add_source<'a, S: Shelf>(
     ensures later { (k : List ℕ) → S.faults_at shelf.old k ≤ S.faults_at shelf.new k }
     ensures read { OnOk result (S.living shelf.new ≡ S.living shelf.old) }
     ensures rows { OnOk result ((rows : List Tuple)
-        × HasRows (S.told shelf.old) (all_bound bindings.now) source.now rows
+        × HasRows (S.told shelf.old) (path_of (all_bound bindings.now) source.now) source.now rows
         × (inputs.new.items ≡ inputs.old.items ++ rows ∷ [])) }
     ensures refused { IfErr result
         (λ stopped. StopsReading (S.told shelf.old) (all_bound bindings.now) source.now
@@ -133,10 +133,10 @@ fn read_source<S: Shelf>(
     ensures later { (k : List ℕ) → S.faults_at shelf.old k ≤ S.faults_at shelf.new k }
     ensures read { OnOk result (S.living shelf.new ≡ S.living shelf.old) }
     ensures rows { OnOk result ((rows : List Tuple)
-        × IfTold (S.told shelf.old path.now) (λ bytes. input_rows source.now bytes ≡ Some rows)
+        × HasRows (S.told shelf.old) path.now source.now rows
         × (inputs.new.items ≡ inputs.old.items ++ rows ∷ [])) }
     ensures refused { IfErr result
-        (λ fault. EndsReadingInput source.now (S.told shelf.old path.now)
+        (λ fault. EndsReadingInput source.now (S.told shelf.old) path.now
         (S.faults_at shelf.old path.now) (S.faults_at shelf.new path.now) fault) }
 {
     let bytes = match read_file(shelf, alloc, path, INPUT_LIMIT) {
@@ -155,10 +155,10 @@ fn read_source<S: Shelf>(
 /// Adds the rows of a source's input.
 fn add_rows(alloc: Global, inputs: &mut Vec<Rows>, bytes: &[u8], source: &Node) -> Result<(), Fault>
     ensures rows { OnOk result ((rows : List Tuple)
-        × (input_rows source.now bytes.now ≡ Some rows)
+        × HasRows (everywhere bytes.now) [] source.now rows
         × (inputs.new.items ≡ inputs.old.items ++ rows ∷ [])) }
     ensures refused { IfErr result
-        (λ fault. EndsReadingInput source.now (Some bytes.now) 0 0 fault) }
+        (λ fault. EndsReadingInput source.now (everywhere bytes.now) [] 0 0 fault) }
 {
     match rows_in(alloc, bytes, source) {
         Ok(rows) => match inputs.push(rows) {
@@ -171,8 +171,8 @@ fn add_rows(alloc: Global, inputs: &mut Vec<Rows>, bytes: &[u8], source: &Node) 
 
 /// The rows of a source's input.
 fn rows_in(alloc: Global, bytes: &[u8], source: &Node) -> Result<Rows, Fault>
-    ensures rows { IfOk result (λ rows. input_rows source.now bytes.now ≡ Some rows) }
-    ensures refused { IfErr result (λ fault. EndsReadingInput source.now (Some bytes.now) 0 0 fault) }
+    ensures rows { IfOk result (λ rows. HasRows (everywhere bytes.now) [] source.now rows) }
+    ensures refused { IfErr result (λ fault. EndsReadingInput source.now (everywhere bytes.now) [] 0 0 fault) }
 {
     let packed = match read_packed(alloc, bytes, &source.schema, source.op.delimiter()) {
         Ok(packed) => packed,

@@ -9,5 +9,3 @@ pub mod inputs;
 mod ops;
 pub mod plan;
 pub mod sources;
-#[cfg(test)]
-mod tests;

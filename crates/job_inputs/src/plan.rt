@@ -1,5 +1,5 @@
 ghost use Rattle.std.specs.Prelude.{◌≡◌, ℕ, ◌<◌, ◌≤◌, List, Ok, IfOk, IfErr, OnOk};
-ghost use Rattle.flow_outside.specs.Told.{IfTold};
+ghost use Rattle.flow_outside.specs.Files.{IfFileTold};
 ghost use Rattle.flow_model.specs.Rules.{IsPlan};
 ghost use Rattle.plan_text.specs.Told.{Tells};
 ghost use Rattle.plan_check.specs.Checking.{◌>>then◌, checked};
@@ -39,10 +39,10 @@ pub fn read_plan_file<S: Shelf>(
     ensures later { (k : List ℕ) → S.faults_at shelf.old k ≤ S.faults_at shelf.new k }
     ensures read { OnOk result (S.living shelf.new ≡ S.living shelf.old) }
     ensures served { IfOk result
-        (λ plan. IfTold (S.told shelf.old name.now) (λ bytes. served program bytes ≡ Ok plan)) }
+        (λ plan. IfFileTold (S.told shelf.old) name.now (λ bytes. served program bytes ≡ Ok plan)) }
     ensures rules { IfOk result IsPlan }
     ensures refused { IfErr result
-        (λ fault. EndsReadingPlan program (S.told shelf.old name.now) (S.faults_at shelf.old name.now)
+        (λ fault. EndsReadingPlan program (S.told shelf.old) name.now (S.faults_at shelf.old name.now)
         (S.faults_at shelf.new name.now) fault) }
 {
     let bytes = match read_file(shelf, alloc, name, PLAN_LIMIT) {

@@ -1,11 +1,12 @@
 use Rattle.std.specs.Prelude.{◌≡◌, ◌⊎◌, ℕ, List, Option}
 use Rattle.flow_outside.specs.Causes.{Rose}
 use Rattle.flow_outside.specs.Told.{Appends, AppendsPrefix}
+use Rattle.flow_outside.specs.Files.{Files}
 
--- A shelf, before and after: the bytes of each name, where told, the count of faults of each name, and how many
--- readers live afterwards.
+-- A shelf, before and after: its files, where told, the count of faults of each name, and how many readers live
+-- afterwards.
 pub record Reads : Type 0 where
-  pub told : List ℕ → Option (List ℕ)
+  pub told : Option Files
   pub before : List ℕ → ℕ
   pub after : List ℕ → ℕ
   pub living : ℕ

@@ -33,7 +33,10 @@ impl MeetGate {
 
     /// Tries to be the worker that stands in the gate. Where one of the same round does, both have met.
     fn enters(&self, mine: u64) -> bool {
-        match self.standing.compare_exchange(EMPTY, mine, Ordering::SeqCst, Ordering::SeqCst) {
+        match self
+            .standing
+            .compare_exchange(EMPTY, mine, Ordering::SeqCst, Ordering::SeqCst)
+        {
             Ok(_) => true,
             Err(other) => {
                 if other == mine {

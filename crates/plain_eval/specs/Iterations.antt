@@ -1,4 +1,4 @@
-use Rattle.std.specs.Prelude.{ℕ, List, [], Option}
+use Rattle.std.specs.Prelude.{◌≡◌, ℕ, List, [], Option}
 use Rattle.flow_types.specs.declared.order_item.OrderItem.{OrderItem}
 use Rattle.flow_model.specs.declared.op.MergeRule.{MergeRule}
 use Rattle.flow_model.specs.declared.op.Op.{Op}
@@ -9,6 +9,11 @@ use Rattle.flow_model.specs.States.{last_state}
 use Rattle.flow_model.specs.Algebra.{Env, bulk_start, bulk_states, delta_start, delta_states}
 
 -- The parts of the algebra that are iterations.
+
+-- An op is the delta iteration of these parts, under some bind name.
+pub record SaysOf (o : Op) (solution workset : ℕ) (key : List ℕ) (order : List OrderItem) (merge : MergeRule) (most delta next : ℕ) : Type 0 where
+  pub bind : List ℕ
+  pub is : o ≡ op.Delta solution workset bind key order merge most delta next
 
 -- the rows of a bulk iteration's last state
 abbrev pub bulk_rows : Env → List Node → Env → ℕ → ℕ → ℕ → ℕ → Option ℕ → Tuples

@@ -1,11 +1,13 @@
-ghost use Rattle.std.specs.Prelude.{◌≡◌, IfOk};
+ghost use Rattle.std.specs.Prelude.{◌≡◌, false, IfOk, MatchOption};
 ghost use Rattle.flow_model.specs.Algebra.{source_numbers, given, delta_start, delta_next};
+ghost use Rattle.flow_model.specs.Segments.{is_delta};
+ghost use Rattle.plain_eval.specs.Iterations.{SaysOf};
 
 use crate::body::superstep;
 use crate::env::{rows_at, take_rows};
 use crate::state::State;
 use flow_model::made::Made;
-use flow_model::op::MergeRule;
+use flow_model::op::{MergeRule, Op};
 use flow_model::plan::Node;
 use flow_model::rows::Rows;
 use flow_outside::failure::Memory;
@@ -36,6 +38,38 @@ pub struct Delta<'a> {
     pub delta: u32,
     /// The number whose rows are the next workset.
     pub next: u32,
+}
+
+impl<'a> Delta<'a> {
+    /// What an op says that is a delta iteration; none of another op.
+    pub fn of(op: &'a Op) -> Option<Delta<'a>>
+        ensures { MatchOption result (is_delta op.now ≡ false) (λ delta. SaysOf op.now delta.solution
+            delta.workset delta.key.now delta.order.now delta.merge delta.most delta.delta delta.next) }
+    {
+        match op {
+            Op::Delta {
+                solution,
+                workset,
+                key,
+                order,
+                merge,
+                max,
+                delta,
+                next,
+                ..
+            } => Some(Delta {
+                solution: *solution,
+                workset: *workset,
+                key: key.as_slice(),
+                order: order.as_slice(),
+                merge: *merge,
+                most: *max,
+                delta: *delta,
+                next: *next,
+            }),
+            _ => None,
+        }
+    }
 }
 
 /// The state before the first superstep: for each key the solution's row with the greatest rank, and

@@ -105,30 +105,8 @@ fn delta_node_rows(
         (λ rows. rows.items ≡ delta_node_rows (given (source_numbers nodes.now) inputs.now) nodes.now made.old.items node.now.number node.now.op) }
     ensures made { IfOk result (λ _. made.new.items ≡ made.old.items) }
 {
-    match &node.op {
-        Op::Delta {
-            solution,
-            workset,
-            key,
-            order,
-            merge,
-            max,
-            delta,
-            next,
-            ..
-        } => {
-            let delta = Delta {
-                solution: *solution,
-                workset: *workset,
-                key: key.as_slice(),
-                order: order.as_slice(),
-                merge: *merge,
-                most: *max,
-                delta: *delta,
-                next: *next,
-            };
-            delta_rows(alloc, nodes, inputs, made, node.number, &delta)
-        }
-        _ => Ok(Vec::new(alloc)),
+    match Delta::of(&node.op) {
+        Some(delta) => delta_rows(alloc, nodes, inputs, made, node.number, &delta),
+        None => Ok(Vec::new(alloc)),
     }
 }

@@ -1,4 +1,5 @@
 pub mod Binds
+pub mod FirstFaults
 pub mod FirstPlaceLemmas
 pub mod Fitting
 pub mod Follow

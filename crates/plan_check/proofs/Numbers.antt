@@ -1,5 +1,5 @@
 -- The numbers and homes of checked nodes, and what stands under a number.
-use Rattle.std.proofs.Common.{◌≡◌, ℕ, ◌<◌, ◌≤◌, Bool, true, false, cond, not, ◌||◌, ◌==◌, List, [], ◌∷◌, ◌++◌, refl, sym, ap, ◌∙◌, arith, suc, Some}
+use Rattle.std.proofs.Common.{◌≡◌, ℕ, ◌<◌, ◌≤◌, Bool, true, false, cond, not, ◌&&◌, ◌||◌, ◌==◌, List, [], ◌∷◌, ◌++◌, refl, sym, ap, ◌∙◌, arith, suc, Some}
 use Rattle.std.proofs.lemmas.Bool.Decides.{Decides-eqb}
 use Rattle.flow_types.proofs.ValueLemmas.{both_true, both_pass}
 use Rattle.flow_model.specs.declared.plan.Node.{Node}
@@ -12,7 +12,7 @@ use Rattle.plan_text.specs.declared.tree.TreeOp.TheVariants as tree
 use Rattle.plan_text.specs.declared.tree.TreeNode.{TreeNode}
 use Rattle.plan_check.specs.Places.{Place}
 use Rattle.plan_check.specs.Numbering.{numbered}
-use Rattle.plan_check.specs.Trees.{are_numbered, has_bind, open_behind, are_in_place}
+use Rattle.plan_check.specs.Trees.{are_numbered, has_bind, is_nested, open_behind, are_in_place}
 use Rattle.plan_check.proofs.Follow.{IsOf, Passed, Follows}
 
 pub equal_numbers : (m n : ℕ) → (m == n) ≡ true → m ≡ n
@@ -85,6 +85,21 @@ body_placed done node placed inside =
     go false true outer e h = cc
     go false false outer e h = refl
 
+-- a node that passes is no iteration in a body
+pub not_nested : (ps : List Place) (done : List Node) (t : TreeNode) (n : Node) → IsOf ps t n → Passed ps done n → is_nested t ≡ false
+not_nested ps done t n is passed = go (t.home == 0) refl
+  where
+    bind : is_iteration n.op ≡ has_bind t.op
+    bind = ap is_iteration is.op ∙ iterates _ _ t.op
+
+    go : (outer : Bool) → (t.home == 0) ≡ outer → (not outer && has_bind t.op) ≡ false
+    go true e = refl
+    go false e = sym bind ∙ body_placed done n passed.placed (ap (λ m. m == 0) is.home ∙ e)
+
+-- what holds behind a node, unless it is refused, holds behind one that isn't
+pub behind_one : (nested rest : Bool) → nested ≡ false → (nested || rest) ≡ true → rest ≡ true
+behind_one nested rest none h = sym (ap (λ b. b || rest) none) ∙ h
+
 -- what is open after a node, by the tree and by the plan
 open_same : (ps : List Place) (done : List Node) (t : TreeNode) (n : Node) (h : ℕ) → IsOf ps t n → Passed ps done n
     → ((t.home == 0) || (t.home == h)) ≡ true → open_after n ≡ open_behind t h
@@ -107,7 +122,8 @@ homes_follow ps done all h [] [] f p = refl
 homes_follow ps done all h [] (n ∷ ns) f p = absurd f
 homes_follow ps done all h (t ∷ ts) [] f p = absurd f
 homes_follow ps done all h (t ∷ ts) (n ∷ ns) f p =
-    let both = both_true ((t.home == 0) || (t.home == h)) (are_in_place (open_behind t h) ts) p in
+    let both = both_true ((t.home == 0) || (t.home == h)) (is_nested t || are_in_place (open_behind t h) ts) p in
+    let rest = behind_one (is_nested t) (are_in_place (open_behind t h) ts) (not_nested ps done t n f.0.0 f.0.1) both.1 in
     both_pass ((n.home == 0) || (n.home == h)) (are_at_home (open_after n) ns)
     (ap (λ m. (m == 0) || (m == h)) f.0.0.home ∙ both.0)
-    (ap (λ m. are_at_home m ns) (open_same ps done t n h f.0.0 f.0.1 both.0) ∙ homes_follow ps (done ++ n ∷ []) all (open_behind t h) ts ns f.1.1 both.1)
+    (ap (λ m. are_at_home m ns) (open_same ps done t n h f.0.0 f.0.1 both.0) ∙ homes_follow ps (done ++ n ∷ []) all (open_behind t h) ts ns f.1.1 rest)

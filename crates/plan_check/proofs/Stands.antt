@@ -6,9 +6,9 @@ use Rattle.flow_types.proofs.ValueLemmas.{both_true}
 use Rattle.flow_model.specs.declared.plan.Node.{Node}
 use Rattle.plan_text.specs.declared.tree.TreeNode.{TreeNode}
 use Rattle.plan_check.specs.Places.{Place}
-use Rattle.plan_check.specs.Trees.{are_numbered, has_bind, open_behind, are_in_place, is_formed, unnumbered}
+use Rattle.plan_check.specs.Trees.{are_numbered, has_bind, is_nested, open_behind, are_in_place, is_formed, unnumbered}
 use Rattle.plan_check.proofs.Follow.{IsOf, Passed, EndsWell, Follows}
-use Rattle.plan_check.proofs.Numbers.{equal_numbers}
+use Rattle.plan_check.proofs.Numbers.{equal_numbers, not_nested, behind_one}
 
 -- A checked node: the tree's node that it is, the nodes before and behind it, and what was seen.
 pub record Stands (ps : List Place) (all : List Node) (node : Node) : Type 0 where
@@ -50,7 +50,8 @@ all_stand ps done all h k [] (n ∷ ns) f parts numbers low places formed = absu
 all_stand ps done all h k (t ∷ ts) [] f parts numbers low places formed = absurd f
 all_stand ps done all h k (t ∷ ts) (n ∷ ns) f parts numbers low places formed =
     let number = both_true (t.number == k) (are_numbered (suc k) ts) numbers in
-    let place = both_true ((t.home == 0) || (t.home == h)) (are_in_place (open_behind t h) ts) places in
+    let place = both_true ((t.home == 0) || (t.home == h)) (is_nested t || are_in_place (open_behind t h) ts) places in
+    let rest = behind_one (is_nested t) (are_in_place (open_behind t h) ts) (not_nested ps done t n f.0.0 f.0.1) place.1 in
     let here = equal_numbers t.number k number.0 in
     All-cons (Stands ps all) n ns
     (record {
@@ -65,4 +66,4 @@ all_stand ps done all h k (t ∷ ts) (n ∷ ns) f parts numbers low places forme
       above = below_same t n k f.0.0.number f.0.0.home here (home_below t h k low place.0);
     })
     (all_stand ps (done ++ n ∷ []) all (open_behind t h) (suc k) ts ns f.1.1 (parts ∙ sym (append_assoc done (n ∷ []) ns))
-    number.1 (open_below t h k here low) place.1 (All-tail (λ (t : TreeNode). is_formed (unnumbered t.op) ≡ true) t ts formed))
+    number.1 (open_below t h k here low) rest (All-tail (λ (t : TreeNode). is_formed (unnumbered t.op) ≡ true) t ts formed))

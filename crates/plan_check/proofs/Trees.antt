@@ -1,5 +1,5 @@
 -- What reading leaves is a tree by its rules.
-use Rattle.std.proofs.Common.{◌≡◌, ℕ, ◌+◌, ◌<◌, Bool, true, false, cond, ◌&&◌, ◌||◌, ◌==◌, List, [], ◌∷◌, ◌++◌, length, refl, sym, ap, ◌∙◌, subst, arith, suc, Option, Some, None, Result, Ok, Err}
+use Rattle.std.proofs.Common.{◌≡◌, ℕ, ◌+◌, ◌<◌, Bool, true, false, cond, not, ◌&&◌, ◌||◌, ◌==◌, List, [], ◌∷◌, ◌++◌, length, refl, sym, ap, ◌∙◌, subst, arith, zero, suc, Option, Some, None, Result, Ok, Err}
 use Rattle.std.specs.Prelude.{nat_le, nat_lt, All, codes, is_some, unwrap_or, ⊤}
 use Rattle.std.proofs.lemmas.Bool.Decides.{nat_tests}
 use Rattle.std.proofs.lemmas.List.Elements.{All-nil, All-cons}
@@ -20,10 +20,11 @@ use Rattle.plan_text.specs.declared.tree.TreeNode.{TreeNode}
 use Rattle.plan_text.specs.declared.tree.PlanTree.{PlanTree}
 use Rattle.plan_text.specs.declared.fault.PlanFault.{PlanFault}
 use Rattle.plan_text.specs.Ops.{op_in}
-use Rattle.plan_text.specs.Nodes.{node_at, node_of, node_in, body_of, Placed, placed_in, placed, told_at, before, nodes_of}
+use Rattle.plan_text.specs.Nodes.{node_at, node_of, node_in, body_of, Placed, placed_with, placed_up_to, list_limit, placed, told_at, before, nodes_of}
+use Rattle.plan_text.proofs.NodeLemmas.{deeper, no_deeper}
 use Rattle.plan_text.specs.Nodes as nodes
 use Rattle.plan_text.specs.Plans.{byte_limit, node_limit, segment_in, nodes_in, Outline, outline_of, refused, tree_of, outlined, plan_in, json_of, plan_of}
-use Rattle.plan_check.specs.Trees.{are_numbered, has_bind, open_behind, are_in_place, IsTree}
+use Rattle.plan_check.specs.Trees.{are_numbered, has_bind, is_nested, open_behind, are_in_place, IsTree}
 use Rattle.plan_check.proofs.Readings.{two_by, then_some, only_if_some}
 use Rattle.plan_check.proofs.Formed.{IsFormed, where_ok, op_formed}
 use Rattle.plan_check.proofs.Binds.{op_binds}
@@ -106,25 +107,22 @@ counted-append n (p ∷ ps) qs a b =
     let at : n + length (p ∷ ps) ≡ suc n + length ps = omega arith in
     both_pass (p.number == n) (are_counted (suc n) (ps ++ qs)) both.0 (counted-append (suc n) ps qs both.1 (ap (λ m. are_counted m qs) (sym at) ∙ b))
 
-counted-body : (home n : ℕ) (ds : List Data) → are_counted n (placed_in home n ds) ≡ true
-counted-body home n [] = refl
-counted-body home n (d ∷ ds) =
+counted-with : (inner : ℕ → ℕ → List Data → List Placed) → ((home n : ℕ) (ds : List Data) → are_counted n (inner home n ds) ≡ true)
+    → (home n : ℕ) (ds : List Data) → are_counted n (placed_with inner home n ds) ≡ true
+counted-with inner all home n [] = refl
+counted-with inner all home n (d ∷ ds) =
+    let body = inner n (n + 1) (body_of d) in
+    let rest = placed_with inner home (n + 1 + length body) ds in
     let next : n + 1 ≡ suc n = omega arith in
-    both_pass (n == n) (are_counted (suc n) (placed_in home (n + 1) ds)) (eqb-refl n) (ap (λ m. are_counted m (placed_in home (n + 1) ds)) (sym next) ∙ counted-body home (n + 1) ds)
+    let at : n + 1 + length body ≡ suc n + length body = omega arith in
+    both_pass (n == n) (are_counted (suc n) (body ++ rest)) (eqb-refl n)
+    (counted-append (suc n) body rest
+    (ap (λ m. are_counted m body) (sym next) ∙ all n (n + 1) (body_of d))
+    (ap (λ m. are_counted m rest) (sym at) ∙ counted-with inner all home (n + 1 + length body) ds))
 
-length-body : (home n : ℕ) (ds : List Data) → length (placed_in home n ds) ≡ length ds
-length-body home n [] = refl
-length-body home n (d ∷ ds) = ap suc (length-body home (n + 1) ds)
-
-counted : (n : ℕ) (ds : List Data) → are_counted n (placed n ds) ≡ true
-counted n [] = refl
-counted n (d ∷ ds) =
-    let next : n + 1 ≡ suc n = omega arith in
-    let at : n + 1 + length (body_of d) ≡ suc n + length (placed_in n (n + 1) (body_of d)) = omega (arith, length-body n (n + 1) (body_of d)) in
-    both_pass (n == n) (are_counted (suc n) (placed_in n (n + 1) (body_of d) ++ placed (n + 1 + length (body_of d)) ds)) (eqb-refl n)
-    (counted-append (suc n) (placed_in n (n + 1) (body_of d)) (placed (n + 1 + length (body_of d)) ds)
-    (ap (λ m. are_counted m (placed_in n (n + 1) (body_of d))) (sym next) ∙ counted-body n (n + 1) (body_of d))
-    (ap (λ m. are_counted m (placed (n + 1 + length (body_of d)) ds)) (sym at) ∙ counted (n + 1 + length (body_of d)) ds))
+counted : (depth home n : ℕ) (ds : List Data) → are_counted n (placed_up_to depth home n ds) ≡ true
+counted zero home n ds = ap (are_counted n) (no_deeper home n ds)
+counted (suc depth) home n ds = ap (are_counted n) (deeper depth home n ds) ∙ counted-with (placed_up_to depth) (counted depth) home n ds
 
 numbers_read : (n : ℕ) (ps : List Placed) (ts : List TreeNode) → AreRead ps ts → are_counted n ps ≡ true → are_numbered n ts ≡ true
 numbers_read n [] [] r h = refl
@@ -139,49 +137,97 @@ numbers_read n (p ∷ ps) (t ∷ ts) r h =
 abbrev pub open_at : Placed → ℕ → ℕ
 open_at p h = cond (p.home == 0) (cond (nodes.is_iteration (op_name_of p.json)) p.number 0) h
 
+abbrev pub nested_at : Placed → Bool
+nested_at p = not (p.home == 0) && nodes.is_iteration (op_name_of p.json)
+
 abbrev pub are_at : ℕ → List Placed → Bool
 are_at h [] = true
-are_at h (p ∷ ps) = ((p.home == 0) || (p.home == h)) && are_at (open_at p h) ps
+are_at h (p ∷ ps) = ((p.home == 0) || (p.home == h)) && (nested_at p || are_at (open_at p h) ps)
+
+either_read : (a b x y : Bool) → a ≡ b → (x ≡ true → y ≡ true) → (b || x) ≡ true → (a || y) ≡ true
+either_read a true x y same on h = ap (λ c. c || y) same
+either_read a false x y same on h = ap (λ c. c || y) same ∙ on h
 
 homes_read : (h : ℕ) (ps : List Placed) (ts : List TreeNode) → AreRead ps ts → are_at h ps ≡ true → are_in_place h ts ≡ true
 homes_read h [] [] r e = refl
 homes_read h [] (t ∷ ts) r e = absurd r
 homes_read h (p ∷ ps) [] r e = absurd r
 homes_read h (p ∷ ps) (t ∷ ts) r e =
-    let both = both_true ((p.home == 0) || (p.home == h)) (are_at (open_at p h) ps) e in
+    let both = both_true ((p.home == 0) || (p.home == h)) (nested_at p || are_at (open_at p h) ps) e in
     let next : open_behind t h ≡ open_at p h =
     ap (λ m. cond (m == 0) (cond (has_bind t.op) t.number 0) h) r.0.home
     ∙ ap (λ b. cond (p.home == 0) (cond b t.number 0) h) r.0.binds
     ∙ ap (λ m. cond (p.home == 0) (cond (nodes.is_iteration (op_name_of p.json)) m 0) h) r.0.number in
-    both_pass ((t.home == 0) || (t.home == h)) (are_in_place (open_behind t h) ts)
+    let nested : is_nested t ≡ nested_at p = ap (λ m. not (m == 0) && has_bind t.op) r.0.home ∙ ap (λ b. not (p.home == 0) && b) r.0.binds in
+    both_pass ((t.home == 0) || (t.home == h)) (is_nested t || are_in_place (open_behind t h) ts)
     (ap (λ m. (m == 0) || (m == h)) r.0.home ∙ both.0)
-    (ap (λ m. are_in_place m ts) next ∙ homes_read (open_at p h) ps ts r.1 both.1)
+    (either_read (is_nested t) (nested_at p) (are_at (open_at p h) ps) (are_in_place (open_behind t h) ts) nested
+    (λ k. ap (λ m. are_in_place m ts) next ∙ homes_read (open_at p h) ps ts r.1 k) both.1)
 
 either_same : (a : Bool) (n : ℕ) → (a || (n == n)) ≡ true
 either_same true n = refl
 either_same false n = eqb-refl n
 
+-- no list is nothing, however deep
+nothing_in : (depth home n : ℕ) → placed_up_to depth home n [] ≡ []
+nothing_in zero home n = no_deeper home n []
+nothing_in (suc depth) home n = deeper depth home n []
+
+-- a node that is no iteration has no body
+no_body : (d : Data) → nodes.is_iteration (op_name_of d) ≡ false → body_of d ≡ []
+no_body d e = ap (λ b. cond b (unwrap_or (get (codes "body") d >>= items_in) []) []) e
+
 -- a body whose iteration is open, before nodes that may stand behind any
-body_at : (n m : ℕ) (ds : List Data) (rest : List Placed) → (n == 0) ≡ false → ((h : ℕ) → are_at h rest ≡ true) → are_at n (placed_in n m ds ++ rest) ≡ true
-body_at n m [] rest some later = later n
-body_at n m (d ∷ ds) rest some later =
-    both_pass ((n == 0) || (n == n)) (are_at (cond (n == 0) (cond (nodes.is_iteration (op_name_of d)) m 0) n) (placed_in n (m + 1) ds ++ rest)) (either_same (n == 0) n)
-    (ap (λ b. are_at (cond b (cond (nodes.is_iteration (op_name_of d)) m 0) n) (placed_in n (m + 1) ds ++ rest)) some ∙ body_at n (m + 1) ds rest some later)
+body_at : (depth n m : ℕ) (ds : List Data) (rest : List Placed) → (n == 0) ≡ false → ((h : ℕ) → are_at h rest ≡ true) → are_at n (placed_with (placed_up_to depth) n m ds ++ rest) ≡ true
+body_at depth n m [] rest some later = later n
+body_at depth n m (d ∷ ds) rest some later =
+    both_pass ((n == 0) || (n == n)) (nested_at p || are_at (open_at p n) ((body ++ behind) ++ rest)) (either_same (n == 0) n)
+    (go (nodes.is_iteration (op_name_of d)) refl (body_at depth n (m + 1 + length body) ds rest some later))
+  where
+    p : Placed
+    p = record { number = m; home = n; json = d }
+
+    body : List Placed
+    body = placed_up_to depth m (m + 1) (body_of d)
+
+    behind : List Placed
+    behind = placed_with (placed_up_to depth) n (m + 1 + length body) ds
+
+    go : (b : Bool) → nodes.is_iteration (op_name_of d) ≡ b → are_at n (behind ++ rest) ≡ true → (nested_at p || are_at (open_at p n) ((body ++ behind) ++ rest)) ≡ true
+    go true e next = ap (λ c. (not c && nodes.is_iteration (op_name_of d)) || are_at (open_at p n) ((body ++ behind) ++ rest)) some
+        ∙ ap (λ c. c || are_at (open_at p n) ((body ++ behind) ++ rest)) e
+    go false e next =
+        let none : body ≡ [] = ap (placed_up_to depth m (m + 1)) (no_body d e) ∙ nothing_in depth m (m + 1) in
+        ap (λ c. (not (n == 0) && c) || are_at (open_at p n) ((body ++ behind) ++ rest)) e
+        ∙ ap (λ c. (not c && false) || are_at (cond c (cond (nodes.is_iteration (op_name_of d)) m 0) n) ((body ++ behind) ++ rest)) some
+        ∙ ap (λ b. are_at n ((b ++ behind) ++ rest)) none ∙ next
+
+body_up_to : (depth n m : ℕ) (ds : List Data) (rest : List Placed) → (n == 0) ≡ false → ((h : ℕ) → are_at h rest ≡ true) → are_at n (placed_up_to depth n m ds ++ rest) ≡ true
+body_up_to zero n m ds rest some later = ap (λ b. are_at n (b ++ rest)) (no_deeper n m ds) ∙ later n
+body_up_to (suc depth) n m ds rest some later = ap (λ b. are_at n (b ++ rest)) (deeper depth n m ds) ∙ body_at depth n m ds rest some later
 
 not_zero : (n : ℕ) → 0 < n → (n == 0) ≡ false
 not_zero n low = grind (arith, nat_tests)
 
-all_at : (n : ℕ) (ds : List Data) → 0 < n → (h : ℕ) → are_at h (placed n ds) ≡ true
-all_at n [] low h = refl
-all_at n (d ∷ ds) low h = go (nodes.is_iteration (op_name_of d)) refl (all_at (n + 1 + length (body_of d)) ds (omega arith))
+all_at : (depth n : ℕ) (ds : List Data) → 0 < n → (h : ℕ) → are_at h (placed_with (placed_up_to depth) 0 n ds) ≡ true
+all_at depth n [] low h = refl
+all_at depth n (d ∷ ds) low h = go (nodes.is_iteration (op_name_of d)) refl (all_at depth (n + 1 + length body) ds (omega arith))
   where
-    go : (b : Bool) → nodes.is_iteration (op_name_of d) ≡ b → ((k : ℕ) → are_at k (placed (n + 1 + length (body_of d)) ds) ≡ true)
-        → are_at (cond (nodes.is_iteration (op_name_of d)) n 0) (placed_in n (n + 1) (body_of d) ++ placed (n + 1 + length (body_of d)) ds) ≡ true
-    go true e later = ap (λ b. are_at (cond b n 0) (placed_in n (n + 1) (body_of d) ++ placed (n + 1 + length (body_of d)) ds)) e ∙ body_at n (n + 1) (body_of d) (placed (n + 1 + length (body_of d)) ds) (not_zero n low) later
+    body : List Placed
+    body = placed_up_to depth n (n + 1) (body_of d)
+
+    behind : List Placed
+    behind = placed_with (placed_up_to depth) 0 (n + 1 + length body) ds
+
+    go : (b : Bool) → nodes.is_iteration (op_name_of d) ≡ b → ((k : ℕ) → are_at k behind ≡ true) → are_at (cond (nodes.is_iteration (op_name_of d)) n 0) (body ++ behind) ≡ true
+    go true e later = ap (λ b. are_at (cond b n 0) (body ++ behind)) e ∙ body_up_to depth n (n + 1) (body_of d) behind (not_zero n low) later
     go false e later =
-        let none : body_of d ≡ [] = ap (λ b. cond b (unwrap_or (get (codes "body") d >>= items_in) []) []) e in
-        ap (λ b. are_at (cond b n 0) (placed_in n (n + 1) (body_of d) ++ placed (n + 1 + length (body_of d)) ds)) e
-        ∙ ap (λ b. are_at 0 (placed_in n (n + 1) b ++ placed (n + 1 + length (body_of d)) ds)) none ∙ later 0
+        let none : body ≡ [] = ap (placed_up_to depth n (n + 1)) (no_body d e) ∙ nothing_in depth n (n + 1) in
+        ap (λ b. are_at (cond b n 0) (body ++ behind)) e ∙ ap (λ b. are_at 0 (b ++ behind)) none ∙ later 0
+
+-- the outer list, before it is opened deeper
+outer_list : (n : ℕ) (ds : List Data) → placed n ds ≡ placed_with (placed_up_to 64) 0 n ds
+outer_list n ds = deeper 64 0 n ds
 
 -- ---- a plan's own members
 
@@ -198,9 +244,14 @@ some_nodes member items e =
     let one = only_if_some (nat_le 1 (length list.0)) list.0 items list.1.1 in
     ap (λ ds. nat_le 1 (length ds)) (sym one.1) ∙ one.0
 
+one_more : (n : ℕ) → nat_le 1 (suc n) ≡ true
+one_more n = grind (arith, nat_tests)
+
 some_placed : (n : ℕ) (ds : List Data) → nat_le 1 (length ds) ≡ true → nat_le 1 (length (placed n ds)) ≡ true
-some_placed n [] h = h
-some_placed n (d ∷ ds) h = grind (arith, nat_tests)
+some_placed n [] h = ap (λ ps. nat_le 1 (length ps)) (outer_list n []) ∙ h
+some_placed n (d ∷ ds) h =
+    let body = placed_up_to 64 n (n + 1) (body_of d) in
+    ap (λ ps. nat_le 1 (length ps)) (outer_list n (d ∷ ds)) ∙ one_more (length (body ++ placed_with (placed_up_to 64) 0 (n + 1 + length body) ds))
 
 at_most_64 : (n : ℕ) → nat_lt node_limit n ≡ false → nat_le n 64 ≡ true
 at_most_64 n h = grind (arith, nat_tests)
@@ -237,8 +288,8 @@ of_nodes segment result items t size some few h = go (nodes_of (placed 1 items))
         let made : IsTree (record { segment = segment; nodes = ts; result = result }) = record {
           segment = size;
           count = ap (is_from 1 64) (same_count (placed 1 items) ts read) ∙ both_pass (nat_le 1 (length (placed 1 items))) (nat_le (length (placed 1 items)) 64) (some_placed 1 items some) (at_most_64 (length (placed 1 items)) few);
-          numbers = numbers_read 1 (placed 1 items) ts read (counted 1 items);
-          homes = homes_read 0 (placed 1 items) ts read (all_at 1 items (omega arith) 0);
+          numbers = numbers_read 1 (placed 1 items) ts read (counted list_limit 0 1 items);
+          homes = homes_read 0 (placed 1 items) ts read (ap (are_at 0) (outer_list 1 items) ∙ all_at 64 1 items (omega arith) 0);
           ops = all_formed (placed 1 items) ts read;
         } in
         subst IsTree same made

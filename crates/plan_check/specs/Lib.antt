@@ -2,6 +2,7 @@ pub mod Places
 pub mod Numbering
 pub mod Checking
 pub mod Trees
+pub mod Refusals
 pub mod Steps
 pub mod Walks
 pub mod Shapes

@@ -23,11 +23,16 @@ has_bind o = not (length (binds_of o) == 0)
 abbrev pub open_behind : TreeNode → ℕ → ℕ
 open_behind node open_home = if node.home == 0 then (if has_bind node.op then node.number else 0) else open_home
 
--- a body follows its iteration: each node's home is 0, or the iteration whose body may go on
+-- an iteration that stands in a body
+abbrev pub is_nested : TreeNode → Bool
+is_nested node = not (node.home == 0) && has_bind node.op
+
+-- A body follows its iteration: each node's home is 0, or the iteration whose body may go on. An iteration in a body is
+-- refused, so nothing is said of the nodes behind it.
 abbrev pub are_in_place : ℕ → List TreeNode → Bool
 are_in_place open_home [] = true
 are_in_place open_home (node ∷ nodes) =
-    ((node.home == 0) || (node.home == open_home)) && are_in_place (open_behind node open_home) nodes
+    ((node.home == 0) || (node.home == open_home)) && (is_nested node || are_in_place (open_behind node open_home) nodes)
 
 -- an op in its ranges; a source's schema is left to the check of types
 abbrev pub is_formed : Op → Bool

@@ -5,6 +5,7 @@
 #![tactic(auto)]
 
 pub mod check;
+pub mod laws;
 mod names;
 mod node;
 mod numbering;

@@ -1,4 +1,4 @@
-use Rattle.std.specs.Prelude.{ℕ, ◌+◌, Bool, true, false, if◌then◌else◌, List, [], ◌∷◌, ◌++◌, length, codes, Option, Some, None, unwrap_or, Result, Ok, Err}
+use Rattle.std.specs.Prelude.{ℕ, zero, suc, ◌+◌, ◌-◌, nat_le, Bool, true, false, if◌then◌else◌, List, [], ◌∷◌, ◌++◌, length, codes, Option, Some, None, unwrap_or, Result, Ok, Err}
 use Rattle.serde_json.specs.Data.{Data}
 use Rattle.serde_json.specs.Find.{get}
 use Rattle.flow_model.specs.declared.plan_code.PlanCode.{PlanCode}
@@ -51,16 +51,43 @@ pub record Placed : Type 0 where
   pub home : ℕ
   pub json : Data
 
--- the nodes of one list, from a number on
-abbrev pub placed_in : ℕ → ℕ → List Data → List Placed
-placed_in home number [] = []
-placed_in home number (d ∷ ds) = record { number = number; home = home; json = d } ∷ placed_in home (number + 1) ds
+-- one node alone, without its body
+abbrev pub alone : (number home : ℕ) → Data → List Placed
+alone number home d = record { number = number; home = home; json = d } ∷ []
 
--- all nodes, from a number on: each of the outer list is followed by its body
+-- the nodes of one list in document order, from a number on: each is followed by those of its body, which `inner` gives
+abbrev pub placed_with : (inner : ℕ → ℕ → List Data → List Placed) → (home number : ℕ) → List Data → List Placed
+placed_with inner home number [] = []
+placed_with inner home number (d ∷ ds) =
+    record { number = number; home = home; json = d } ∷ inner number (number + 1) (body_of d)
+    ++ placed_with inner home (number + 1 + length (inner number (number + 1) (body_of d))) ds
+
+-- the nodes of one list and of the lists in it, where so many lists stand in one another at most
+unfoldable pub placed_up_to : (depth home number : ℕ) → List Data → List Placed
+placed_up_to zero home number ds = []
+placed_up_to (suc depth) home number ds = placed_with (placed_up_to depth) home number ds
+
+-- How many lists are read that stand in one another. Where more do, more than 64 nodes stand in these.
+abbrev pub list_limit : ℕ
+list_limit = 65
+
+-- all nodes, from a number on, bodies included
 abbrev pub placed : ℕ → List Data → List Placed
-placed number [] = []
-placed number (d ∷ ds) =
-    record { number = number; home = 0; json = d } ∷ placed_in number (number + 1) (body_of d) ++ placed (number + 1 + length (body_of d)) ds
+placed number ds = placed_up_to list_limit 0 number ds
+
+-- how many nodes stand in a list, where `inner` counts those of a body
+abbrev pub count_with : (inner : List Data → ℕ) → List Data → ℕ
+count_with inner [] = 0
+count_with inner (d ∷ ds) = 1 + inner (body_of d) + count_with inner ds
+
+-- how many nodes stand in a list and in the lists in it, so many deep
+unfoldable pub count_up_to : (depth : ℕ) → List Data → ℕ
+count_up_to zero ds = 0
+count_up_to (suc depth) ds = count_with (count_up_to depth) ds
+
+-- how many nodes may still come after so many, where there may
+abbrev pub left_after : (left count : ℕ) → Option ℕ
+left_after left count = if nat_le count left then Some (left - count) else None
 
 -- a flaw's code
 abbrev pub code_of : Flaw → PlanCode

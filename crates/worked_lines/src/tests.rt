@@ -1,9 +1,9 @@
 ghost use Rattle.std.specs.Prelude.{◌≡◌, Some, false};
 
-use crate::first_form::read_packed;
-use crate::input_fault::InputFault;
-use crate::result_text::{WriteFault, write_rows};
-use crate::row_writer::{RowFault, RowWriter};
+use delim_io::first_form::read_packed;
+use delim_io::input_fault::InputFault;
+use delim_io::result_text::{WriteFault, write_rows};
+use delim_io::row_writer::{RowFault, RowWriter};
 use flow_outside::failure::Failed;
 use flow_outside::sink::Sink;
 use flow_types::field_type::FieldType;
