@@ -15,11 +15,11 @@ use flow_outside::sink::Sink;
 use flow_outside::write_all::write_all;
 use flow_types::field_type::FieldType;
 use flow_types::schema::Schema;
-use span_bytes::span::Span;
 use flow_types::text::TEXT_LIMIT;
 use itoa::Buffer;
 use record_codec::number::long_at;
 use record_codec::place::field_at;
+use span_bytes::span::Span;
 use std::alloc::Global;
 use thiserror::Error;
 

@@ -19,9 +19,9 @@ use flow_outside::failure::StreamFault;
 use flow_outside::spill::Spill;
 use flow_types::expr::Expr;
 use flow_types::schema::Schema;
-use span_bytes::span::Span;
 use lot_store::lot::Lot;
 use segment_core::Purse;
+use span_bytes::span::Span;
 
 impl Work {
     /// Adds the rows that are given of a row behind those of a lot. Each byte of a record is copied once, and of

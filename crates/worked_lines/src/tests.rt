@@ -9,10 +9,10 @@ use flow_outside::sink::Sink;
 use flow_types::field_type::FieldType;
 use flow_types::row::Row;
 use flow_types::schema::Schema;
-use span_bytes::span::Span;
 use flow_types::text::Text;
 use flow_types::value::Value;
 use record_codec::check::check_bytes;
+use span_bytes::span::Span;
 use std::alloc::Global;
 use std::test::Fail;
 

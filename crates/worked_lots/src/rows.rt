@@ -1,7 +1,7 @@
 ghost use Rattle.std.specs.Prelude.{◌≡◌, ◌+◌, ◌≤◌, IfOk, length, vec_len};
 
-use span_bytes::span::Span;
 use paged_view::record_ref::RecordRef;
+use span_bytes::span::Span;
 use std::alloc::{AllocError, Global};
 
 /// The numbers 0 to 250, over and over.

@@ -2,10 +2,10 @@ ghost use Rattle.std.specs.Prelude.{◌≡◌, ◌-◌, [], None, drop, length, 
 
 use flow_outside::failure::StreamFault;
 use flow_outside::spill::Spill;
-use span_bytes::span::Span;
 use paged_view::record_ref::RecordRef;
 use paged_view::share::Share;
 use paged_view::stream::RecordStream;
+use span_bytes::span::Span;
 
 /// Records of a list, as a stream that calls no disk.
 #[derive(Drop)]

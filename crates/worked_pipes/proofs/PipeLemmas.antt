@@ -1,5 +1,5 @@
 -- How many segments two lots and their purse have.
-use Rattle.std.proofs.Common.{◌≡◌, ◌≢◌, ℕ, zero, suc, ◌+◌, ◌<◌, ◌≤◌, Bool, true, List, [], ◌∷◌, ◌++◌, length, All, IsTrue, Option, Some, None, option_to_list, get_or, refl, sym, ap, ◌∙◌, subst, arith, length-append}
+use Rattle.std.proofs.Common.{◌≡◌, ◌≢◌, ℕ, zero, suc, ◌+◌, ◌<◌, ◌≤◌, Bool, true, List, [], ◌∷◌, ◌++◌, length, All, IsTrue, Result, Ok, Err, OnOk, Option, Some, None, option_to_list, get_or, refl, sym, ap, ◌∙◌, subst, arith, length-append}
 use Rattle.std.proofs.lemmas.List.Sums.{sum_by-cons}
 use Rattle.flow_model.specs.declared.plan.Node.{Node}
 use Rattle.flow_model.specs.declared.plan.Plan.{Plan}
@@ -12,7 +12,8 @@ use Rattle.lot_store.specs.LotCalls.{Reads, Writes}
 use Rattle.lot_store.specs.Lots.{LotView, empty, held}
 use Rattle.lot_store.specs.Storage.{IsNoneOf, Preserves, alone, held_count, held_sum, lot_at, pair}
 use Rattle.lot_store.proofs.StorageLaws.{counts_after, preserves_join, preserves_more, preserves_within}
-use Rattle.row_pipe.specs.Pipes.{Passes}
+use Rattle.row_pipe.specs.Pipes.{Passes, RestsAfter}
+use Rattle.flow_outside.specs.declared.failure.StreamFault.{StreamFault}
 
 -- What a call keeps of both lots, each of which it may have written.
 abbrev pub Both : (t u : Option Blocks) (p q : PurseView) (a b x y : LotView) → Type 0
@@ -97,6 +98,11 @@ both_home t u v w k o p q r s z a b c x y d page first second taken both put dro
 pub count_one : (t u : Option Blocks) (a b : LotView) (p q : PurseView) (tidy : Bool) → Preserves (alone t p a) (alone u q b) (0 ∷ []) (0 ∷ []) tidy → length q.pages + length (held b) ≡ length p.pages + length (held a)
 count_one t u a b p q tidy keeps =
     omega (arith, counts_after (alone t p a) (alone u q b) (0 ∷ []) (0 ∷ []) tidy keeps, sum_by-cons (λ (l : LotView). length (held l)) a [], sum_by-cons (λ (l : LotView). length (held l)) b [])
+
+-- After an answer that isn't a fault the lot that was read is at rest.
+pub read_rests : (answer : Result Unit StreamFault) (input out : LotView) → RestsAfter input out answer → OnOk answer (length (held input) ≤ input.stored.room)
+read_rests (Ok done) input out rests = rests.read (λ block is. let wrong = is in cc)
+read_rests (Err fault) input out rests = tt
 
 -- Over a disk that doesn't tell nothing is to be known.
 pub if_untold : (t : Option Blocks) (P : Blocks → Type 0) → t ≡ None → IfTold t P

@@ -1,8 +1,8 @@
-ghost use Rattle.std.specs.Prelude.{◌≡◌, ℕ, ◌+◌, ◌<◌, ◌≤◌, [], ◌∷◌, true, None, length};
+ghost use Rattle.std.specs.Prelude.{◌≡◌, ℕ, ◌+◌, ◌<◌, ◌≤◌, [], ◌∷◌, true, None, OnOk, length};
 ghost use Rattle.lot_store.specs.Lots.{empty, held};
 ghost use Rattle.lot_store.specs.Storage.{Preserves, pair};
 ghost use Rattle.segment_core.specs.Segments.{segment_sum};
-ghost use Rattle.row_pipe.specs.Pipes.{Passes, RestsAfter};
+ghost use Rattle.row_pipe.specs.Pipes.{Passes};
 
 use crate::lots::{Given, fill, read_all};
 use expr_core::scratch::Scratch;
@@ -38,7 +38,8 @@ fn pass<D: Spill>(
     requires room { length purse.old.pages + (length (held input.old) + length (held out.old)) ≤ purse.old.room }
     requires rests { length (held input.old) ≤ input.old.stored.room }
     ensures passes { Passes (D.told disk.old) (D.told disk.new) input.old input.new out.old out.new purse.old purse.new }
-    ensures rests { RestsAfter input.new out.new result }
+    ensures read { OnOk result (length (held input.new) ≤ input.new.stored.room) }
+    ensures written { OnOk result (length (held out.new) ≤ out.new.stored.room) }
 {
     let mut io = Io { purse, disk };
     pipe(p, input, out, s, &mut io)

@@ -14,7 +14,7 @@ drop_lot-dropped-requires-clause-supply g c some =
 pub drop_lot-dropped-requires-clause-ready : goal.drop_lot-dropped-requires-clause-ready
 drop_lot-dropped-requires-clause-ready g c =
     ready_of _ c.twice-answer.new.lot c.twice-answer.new.purse
-    (stands_on _ _ c.args.lot c.twice-answer.new.lot c.args.purse.now c.twice-answer.new.purse _ c.twice-answer.ensures (twice-answer-requires-clause-can g c).stands)
+    (stands_on _ _ c.args.lot c.twice-answer.new.lot c.args.purse.now c.twice-answer.new.purse _ c.twice-answer.ensures (can_add_empty _ c.args.lot c.args.purse.now c.requires.fresh c.requires.sized c.requires.room (omega (arith, c.requires.enough))).stands)
 
 pub returns-in-Ok : goal.returns-in-Ok
 returns-in-Ok g c =

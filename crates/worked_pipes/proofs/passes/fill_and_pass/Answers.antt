@@ -44,7 +44,7 @@ read_all-requires-clause-room g c =
 
 pub read_all-requires-clause-supply : goal.read_all-requires-clause-supply
 read_all-requires-clause-supply g c =
-    omega (arith, both_count _ _ c.args.purse.now c.pass.new.purse c.args.input.now c.pass.new.input c.args.out.now c.pass.new.out (passed _ _ _ _ c.args.purse.now c.fill.new.purse c.rest.new.purse c.pass.new.purse c.args.input.now c.fill.new.lot c.rest.new.self c.pass.new.input c.args.out.now c.pass.new.out c.fill.ensures c.rest.ensures.preserves c.pass.ensures.passes), (passed _ _ _ _ c.args.purse.now c.fill.new.purse c.rest.new.purse c.pass.new.purse c.args.input.now c.fill.new.lot c.rest.new.self c.pass.new.input c.args.out.now c.pass.new.out c.fill.ensures c.rest.ensures.preserves c.pass.ensures.passes).rooms 0 c.args.input.now, (passed _ _ _ _ c.args.purse.now c.fill.new.purse c.rest.new.purse c.pass.new.purse c.args.input.now c.fill.new.lot c.rest.new.self c.pass.new.input c.args.out.now c.pass.new.out c.fill.ensures c.rest.ensures.preserves c.pass.ensures.passes).rooms 1 c.args.input.now, (passed _ _ _ _ c.args.purse.now c.fill.new.purse c.rest.new.purse c.pass.new.purse c.args.input.now c.fill.new.lot c.rest.new.self c.pass.new.input c.args.out.now c.pass.new.out c.fill.ensures c.rest.ensures.preserves c.pass.ensures.passes).reach 1 c.args.input.now, c.pass.ensures.rests.read (λ block is. absurd (cc_of is)), c.in-Ok-pass.ensures.rests.written, reach_of c.args.out.now c.args.input.now.stored.room 3 c.requires.fresh_out, room_of c.args.out.now c.args.input.now.stored.room 3 c.requires.fresh_out, none_held c.args.input.now c.args.input.now.stored.room 3 c.requires.fresh, none_held c.args.out.now c.args.input.now.stored.room 3 c.requires.fresh_out, c.requires.enough)
+    omega (arith, both_count _ _ c.args.purse.now c.pass.new.purse c.args.input.now c.pass.new.input c.args.out.now c.pass.new.out (passed _ _ _ _ c.args.purse.now c.fill.new.purse c.rest.new.purse c.pass.new.purse c.args.input.now c.fill.new.lot c.rest.new.self c.pass.new.input c.args.out.now c.pass.new.out c.fill.ensures c.rest.ensures.preserves c.pass.ensures.passes), (passed _ _ _ _ c.args.purse.now c.fill.new.purse c.rest.new.purse c.pass.new.purse c.args.input.now c.fill.new.lot c.rest.new.self c.pass.new.input c.args.out.now c.pass.new.out c.fill.ensures c.rest.ensures.preserves c.pass.ensures.passes).rooms 0 c.args.input.now, (passed _ _ _ _ c.args.purse.now c.fill.new.purse c.rest.new.purse c.pass.new.purse c.args.input.now c.fill.new.lot c.rest.new.self c.pass.new.input c.args.out.now c.pass.new.out c.fill.ensures c.rest.ensures.preserves c.pass.ensures.passes).rooms 1 c.args.input.now, (passed _ _ _ _ c.args.purse.now c.fill.new.purse c.rest.new.purse c.pass.new.purse c.args.input.now c.fill.new.lot c.rest.new.self c.pass.new.input c.args.out.now c.pass.new.out c.fill.ensures c.rest.ensures.preserves c.pass.ensures.passes).reach 1 c.args.input.now, c.in-Ok-pass.ensures.read, c.in-Ok-pass.ensures.written, reach_of c.args.out.now c.args.input.now.stored.room 3 c.requires.fresh_out, room_of c.args.out.now c.args.input.now.stored.room 3 c.requires.fresh_out, none_held c.args.input.now c.args.input.now.stored.room 3 c.requires.fresh, none_held c.args.out.now c.args.input.now.stored.room 3 c.requires.fresh_out, c.requires.enough)
 
 pub returns-in-Ok-pass : goal.returns-in-Ok-pass
 returns-in-Ok-pass g c =
