@@ -3,7 +3,8 @@ use Rattle.std.proofs.Common.{◌≡◌, ℕ, zero, suc, ◌<◌, ◌≤◌, inl
 use Rattle.std.specs.Prelude.{◌⊎◌, All}
 use Rattle.std.proofs.lemmas.List.Elements.{All-head, All-tail}
 use Rattle.flow_outside.specs.Causes.{Rose}
-use Rattle.flow_outside.specs.Told.{IfTold}
+use Rattle.std.specs.Prelude.{IsSomeAnd}
+use Rattle.flow_outside.specs.Files.{Files, bytes_of, IfFileTold}
 use Rattle.flow_types.specs.Tuples.{Tuple}
 use Rattle.flow_model.specs.declared.plan.Node.{Node}
 use Rattle.flow_model.specs.declared.plan.Plan.{Plan}
@@ -24,13 +25,14 @@ use Rattle.flink_job.specs.Outcome.{HasPlan, IsEnough, MayRun, EndsAtSource, End
 use Rattle.flink_job.specs.Completes.{IsSourceWell, IsTaskWell, IsWell}
 
 -- what is told of a file that is told
-of_told : (o : Option (List ℕ)) (bytes : List ℕ) (P : List ℕ → Type 0) → o ≡ Some bytes → IfTold o P → P bytes
-of_told o bytes P told h = subst (λ t. IfTold t P) told h
+pub of_told : (files : Option Files) (name bytes : List ℕ) (P : List ℕ → Type 0) → bytes_of files name ≡ Some bytes → IfFileTold files name P → P bytes
+of_told None name bytes P told h = cc
+of_told (Some files) name bytes P told h = subst (λ t. IsSomeAnd t P) told h
 
 -- the plan that the file is
-same_plan : (p : Program) (reads : Reads) (a : Asked) (bytes : List ℕ) (plan other : Plan) → reads.told a.plan ≡ Some bytes → served p bytes ≡ Ok plan → HasPlan p reads.told a other → other ≡ plan
+pub same_plan : (p : Program) (reads : Reads) (a : Asked) (bytes : List ℕ) (plan other : Plan) → bytes_of reads.told a.plan ≡ Some bytes → served p bytes ≡ Ok plan → HasPlan p reads.told a other → other ≡ plan
 same_plan p reads a bytes plan other told is has =
-    let h : served p bytes ≡ Ok other = of_told (reads.told a.plan) bytes (λ b. served p b ≡ Ok other) told has in
+    let h : served p bytes ≡ Ok other = of_told reads.told a.plan bytes (λ b. served p b ≡ Ok other) told has.told in
     ok_same other plan (sym h ∙ is)
   where
     ok_same : (x y : Plan) → ◌≡◌ {A = Result Plan PlanFault} (Ok x) (Ok y) → x ≡ y
@@ -44,14 +46,14 @@ of_middle : (P : Node → Type 0) (front back : List Node) (source : Node) → A
 of_middle P [] back source h = All-head P source back h
 of_middle P (x ∷ xs) back source h = of_middle P xs back source (All-tail P x (xs ++ source ∷ back) h)
 
-module _ (p : Program) (reads : Reads) (out : Writes) (a : Asked) (bytes : List ℕ) (told : reads.told a.plan ≡ Some bytes) (plan : Plan) (is : served p bytes ≡ Ok plan) (task : IsTaskWell reads plan a.task) where
+module _ (p : Program) (reads : Reads) (out : Writes) (a : Asked) (bytes : List ℕ) (told : bytes_of reads.told a.plan ≡ Some bytes) (plan : Plan) (is : served p bytes ≡ Ok plan) (task : IsTaskWell reads plan a.task) where
   runs : (budget : Option Budget) (bindings : List Binding) (other : Plan) → a.task ≡ Task.run budget bindings → HasPlan p reads.told a other → RunsWell reads other budget bindings
   runs budget bindings other asks has =
       subst (λ q. RunsWell reads q budget bindings) (sym (same_plan p reads a bytes plan other told is has)) (subst (IsTaskWell reads plan) asks task)
 
-  no_refusal : (node : ℕ) (why : PlanCode) → IfTold (reads.told a.plan) (λ b. served p b ≡ Err (plan_fault.Refused node why)) → ⊥
+  no_refusal : (node : ℕ) (why : PlanCode) → IfFileTold reads.told a.plan (λ b. served p b ≡ Err (plan_fault.Refused node why)) → ⊥
   no_refusal node why h =
-      let e : served p bytes ≡ Err (plan_fault.Refused node why) = of_told (reads.told a.plan) bytes (λ b. served p b ≡ Err (plan_fault.Refused node why)) told h in
+      let e : served p bytes ≡ Err (plan_fault.Refused node why) = of_told reads.told a.plan bytes (λ b. served p b ≡ Err (plan_fault.Refused node why)) told h in
       cc
 
   source_well : (number : ℕ) (name : List ℕ) (at : EndsAtSource p reads out a number name) → IsSourceWell reads at.bindings at.source
@@ -68,11 +70,11 @@ module _ (p : Program) (reads : Reads) (out : Writes) (a : Asked) (bytes : List 
       let enough : minimum other budget.workers ≤ budget.segments = (runs (Some budget) bindings other asks has).1.0 in
       omega (arith, needs, holds, small, enough)
 
-  no_input : (number : ℕ) (name : List ℕ) (at : EndsAtSource p reads out a number name) → IfTold (reads.told (path_of at.bindings at.source)) (λ b. input_rows at.source b ≡ None) → ⊥
+  no_input : (number : ℕ) (name : List ℕ) (at : EndsAtSource p reads out a number name) → IfFileTold reads.told (path_of at.bindings at.source) (λ b. input_rows at.source b ≡ None) → ⊥
   no_input number name at h =
       let well = source_well number name at in
-      let e : input_rows at.source well.bytes ≡ None = of_told (reads.told (path_of at.bindings at.source)) well.bytes (λ b. input_rows at.source b ≡ None) well.told h in
-      let f : input_rows at.source well.bytes ≡ Some well.rows = well.rows_are in
+      let e : input_rows at.source well.input.bytes ≡ None = of_told reads.told (path_of at.bindings at.source) well.input.bytes (λ b. input_rows at.source b ≡ None) well.input.told h in
+      let f : input_rows at.source well.input.bytes ≡ Some well.input.rows = well.input.rows_are in
       cc
 
   completes : (Rose (reads.before a.plan) (reads.after a.plan) → ⊥) → (Rose out.before out.after → ⊥) → (name : List ℕ) (end : Option Fault) → Ends p reads out a name end

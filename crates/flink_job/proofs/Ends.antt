@@ -6,6 +6,7 @@ use Rattle.std.proofs.lemmas.Bool.Decides.{Decides-eqb}
 use Rattle.std.proofs.lemmas.List.{take_all}
 use Rattle.flow_outside.specs.declared.failure.Failed.{Failed}
 use Rattle.flow_outside.specs.Causes.{Rose, HasCause}
+use Rattle.flow_outside.specs.Files.{Files}
 use Rattle.flow_outside.specs.Told.{with_text, Appends, AppendsProperPrefix}
 use Rattle.flow_types.proofs.ValueLemmas.{both_true}
 use Rattle.flow_types.specs.Tuples.{Tuple}
@@ -22,7 +23,7 @@ use Rattle.job_report.specs.Effects.{Reads, Writes, WritesNothing, Reports}
 use Rattle.job_report.specs.Lines.{report_of, status_of}
 use Rattle.job_inputs.specs.declared.inputs.Stopped.{Stopped}
 use Rattle.job_inputs.specs.Sources.{sources_of, unbound_name}
-use Rattle.job_inputs.specs.Inputs.{Files, path_of, HaveRows, StopsAt}
+use Rattle.job_inputs.specs.Inputs.{path_of, HaveRows, StopsAt}
 use Rattle.job_inputs.specs.PlanEnds.{EndsReadingPlan}
 use Rattle.job_inputs.specs.InputEnds.{EndsReadingInputs}
 use Rattle.flink_job.specs.Outcome.{HasPlan, IsEnough, HasResult, HasTaskText, HasText, EndsAtSource, Ends, EndsAsked, IsOutcome}
@@ -66,14 +67,14 @@ not_zero : (n : ℕ) → suc n ≡ 0 → ⊥
 not_zero n e = omega (arith, e)
 
 pub stopped_at_plan : (p : Program) (reads : Reads) (out : Writes) (a : Asked) (s : Stopped) (f : Fault) → s.fault ≡ f → WritesNothing out
-    → EndsReadingPlan p (reads.told a.plan) (reads.before a.plan) (reads.after a.plan) f → EndsStopped p reads out a (Some s)
+    → EndsReadingPlan p reads.told a.plan (reads.before a.plan) (reads.after a.plan) f → EndsStopped p reads out a (Some s)
 stopped_at_plan p reads out a s f is silent e = stopped_by p reads out a s f is (by f e)
   where
     at : (source : ℕ) → source ≡ 0 → Rose (reads.before a.plan) (reads.after a.plan) → Ends p reads out a s.name.now (Some (fault.ReadFault source))
     at zero zero_is rose = (rose, silent)
     at (suc n) zero_is rose = absurd (not_zero n zero_is)
 
-    by : (f : Fault) → EndsReadingPlan p (reads.told a.plan) (reads.before a.plan) (reads.after a.plan) f → Ends p reads out a s.name.now (Some f)
+    by : (f : Fault) → EndsReadingPlan p reads.told a.plan (reads.before a.plan) (reads.after a.plan) f → Ends p reads out a s.name.now (Some f)
     by (fault.ReadFault source) k = at source k.0 k.1
     by (fault.PlanRefused node why) k = record { refused = k; silent = silent }
     by fault.Memory k = inl silent
@@ -86,18 +87,18 @@ stopped_at_plan p reads out a s f is silent e = stopped_by p reads out a s f is 
 -- ---- bindings and budgets
 
 -- memory was wanting before anything was written
-pub stopped_wanting : (files : Files) (counts after : List ℕ → ℕ) (living : ℕ) (out : Writes) (plan : Plan) (budget : Option Budget) (bindings : List Binding) (s : Stopped)
+pub stopped_wanting : (files : Option Files) (counts after : List ℕ → ℕ) (living : ℕ) (out : Writes) (plan : Plan) (budget : Option Budget) (bindings : List Binding) (s : Stopped)
     → s.fault ≡ fault.Memory → WritesNothing out → EndsRun files counts after living out plan budget bindings (Some s)
 stopped_wanting files counts after living out plan budget bindings s is silent p a before low asks has =
     stopped_by p (record { told = files; before = before; after = after; living = living }) out a s fault.Memory is (inl silent)
 
-pub stopped_unbound : (files : Files) (counts after : List ℕ → ℕ) (living : ℕ) (out : Writes) (plan : Plan) (budget : Option Budget) (bindings : List Binding) (s : Stopped) (name : List ℕ)
+pub stopped_unbound : (files : Option Files) (counts after : List ℕ → ℕ) (living : ℕ) (out : Writes) (plan : Plan) (budget : Option Budget) (bindings : List Binding) (s : Stopped) (name : List ℕ)
     → s.fault ≡ fault.Unbound name → WritesNothing out → unbound_name bindings plan ≡ Some name → EndsRun files counts after living out plan budget bindings (Some s)
 stopped_unbound files counts after living out plan budget bindings s name is silent free p a before low asks has =
     stopped_by p (record { told = files; before = before; after = after; living = living }) out a s (fault.Unbound name) is
     (record { budget = budget; bindings = bindings; asks = asks; plan = plan; has = has; unbound = free; silent = silent })
 
-pub stopped_small : (files : Files) (counts after : List ℕ → ℕ) (living : ℕ) (out : Writes) (plan : Plan) (budget : Option Budget) (bindings : List Binding) (s : Stopped) (f : Fault)
+pub stopped_small : (files : Option Files) (counts after : List ℕ → ℕ) (living : ℕ) (out : Writes) (plan : Plan) (budget : Option Budget) (bindings : List Binding) (s : Stopped) (f : Fault)
     → s.fault ≡ f → WritesNothing out → unbound_name bindings plan ≡ None → EndsByBudget plan budget (Some f) → EndsRun files counts after living out plan budget bindings (Some s)
 stopped_small files counts after living out plan None bindings s f is silent bound e p a before low asks has = absurd e
 stopped_small files counts after living out plan (Some b) bindings s f is silent bound e p a before low asks has =
@@ -116,7 +117,7 @@ stopped_small files counts after living out plan (Some b) bindings s f is silent
 
 -- ---- inputs
 
-numbers_from : (n : ℕ) (nodes : List Node) → is_numbered n nodes ≡ true → All (λ (node : Node). n ≤ node.number) nodes
+pub numbers_from : (n : ℕ) (nodes : List Node) → is_numbered n nodes ≡ true → All (λ (node : Node). n ≤ node.number) nodes
 numbers_from n [] h = All-nil (λ (node : Node). n ≤ node.number)
 numbers_from n (x ∷ xs) h =
     let both = both_true (x.number == n) (is_numbered (suc n) xs) h in
@@ -125,7 +126,7 @@ numbers_from n (x ∷ xs) h =
     (All-weaker (λ (node : Node). suc n ≤ node.number) (λ (node : Node). n ≤ node.number) (λ node low. omega arith) xs (numbers_from (suc n) xs both.1))
 
 -- what holds of all holds of what stands behind some
-all_behind : (P : Node → Type 0) (front back : List Node) → All P (front ++ back) → All P back
+pub all_behind : (P : Node → Type 0) (front back : List Node) → All P (front ++ back) → All P back
 all_behind P [] back h = h
 all_behind P (x ∷ xs) back h = all_behind P xs back (All-tail P x (xs ++ back) h)
 
@@ -138,7 +139,7 @@ source_above plan front back source rules parts =
 none_below_one : (n : ℕ) → 0 ≡ n → 1 ≤ n → ⊥
 none_below_one n e f = omega (arith, e, f)
 
-pub stopped_at_input : (files : Files) (counts after : List ℕ → ℕ) (living : ℕ) (out : Writes) (plan : Plan) (budget : Option Budget) (bindings : List Binding) (s : Stopped)
+pub stopped_at_input : (files : Option Files) (counts after : List ℕ → ℕ) (living : ℕ) (out : Writes) (plan : Plan) (budget : Option Budget) (bindings : List Binding) (s : Stopped)
     → IsPlan plan → WritesNothing out → unbound_name bindings plan ≡ None → IsEnough plan budget
     → EndsReadingInputs files bindings (sources_of plan) counts after s.name.now s.fault → EndsRun files counts after living out plan budget bindings (Some s)
 stopped_at_input files counts after living out plan budget bindings s rules silent bound enough e p a before low asks has = by s.fault e
@@ -184,7 +185,7 @@ stopped_at_input files counts after living out plan budget bindings s rules sile
 
 -- ---- results
 
-result_text : (p : Program) (files : Files) (a : Asked) (plan : Plan) (budget : Option Budget) (bindings : List Binding) (lists : List (List Tuple))
+result_text : (p : Program) (files : Option Files) (a : Asked) (plan : Plan) (budget : Option Budget) (bindings : List Binding) (lists : List (List Tuple))
     → a.task ≡ Task.run budget bindings → HasPlan p files a plan → unbound_name bindings plan ≡ None → IsEnough plan budget → HaveRows files bindings (sources_of plan) lists
     → HasText p files a (text_of (eval plan lists))
 result_text p files a plan budget bindings lists asks has bound enough rows =
@@ -205,7 +206,7 @@ text_ends p reads out a text None (Some s) is has living e = absurd is
 text_ends p reads out a text (Some f) None is has living e = absurd is
 text_ends p reads out a text (Some f) (Some s) is has living e = stopped_printing p reads out a text s f is has living e
 
-pub result_ends : (files : Files) (counts after : List ℕ → ℕ) (living : ℕ) (out : Writes) (plan : Plan) (budget : Option Budget) (bindings : List Binding) (lists : List (List Tuple)) (end : Option Fault) (r : Option Stopped)
+pub result_ends : (files : Option Files) (counts after : List ℕ → ℕ) (living : ℕ) (out : Writes) (plan : Plan) (budget : Option Budget) (bindings : List Binding) (lists : List (List Tuple)) (end : Option Fault) (r : Option Stopped)
     → IsStoppedBy end r → unbound_name bindings plan ≡ None → IsEnough plan budget → HaveRows files bindings (sources_of plan) lists → living ≡ 0
     → EndsPrinting (text_of (eval plan lists)) out.old out.new out.before out.after end → EndsRun files counts after living out plan budget bindings r
 result_ends files counts after living out plan budget bindings lists end r is bound enough rows read e p a before low asks has =

@@ -1,5 +1,6 @@
 use Rattle.std.specs.Prelude.{◌≡◌, ◌⊎◌, ℕ, List, Option, Some, None, Ok, All}
 use Rattle.flow_outside.specs.Causes.{Rose}
+use Rattle.flow_outside.specs.Files.{bytes_of}
 use Rattle.flow_types.specs.Tuples.{Tuple}
 use Rattle.flow_model.specs.declared.plan.Node.{Node}
 use Rattle.flow_model.specs.declared.plan.Plan.{Plan}
@@ -15,12 +16,16 @@ use Rattle.flink_job.specs.Outcome.{IsEnough, IsOutcome}
 
 -- The converse of the causes: where all is well, a run ends well.
 
--- A source's file is told and has rows, and no count rose at it.
-pub record IsSourceWell (reads : Reads) (bindings : List Binding) (source : Node) : Type 0 where
+-- A source's file is told and has rows.
+pub record HasInput (reads : Reads) (bindings : List Binding) (source : Node) : Type 0 where
   pub bytes : List ℕ
-  pub told : reads.told (path_of bindings source) ≡ Some bytes
+  pub told : bytes_of reads.told (path_of bindings source) ≡ Some bytes
   pub rows : List Tuple
   pub rows_are : input_rows source bytes ≡ Some rows
+
+-- A source's file is told and has rows, and no count rose at it.
+pub record IsSourceWell (reads : Reads) (bindings : List Binding) (source : Node) : Type 0 where
+  pub input : HasInput reads bindings source
   pub read : Rose (reads.before (path_of bindings source)) (reads.after (path_of bindings source)) → ⊥
 
 -- All is well with a task and a plan: where it is to be run, its sources are bound once each and nothing else is, its
@@ -37,7 +42,7 @@ pub record IsWell (p : Program) (words : List (List ℕ)) (reads : Reads) (out :
   pub a : Asked
   pub asks : asked_of p words ≡ Some a
   pub bytes : List ℕ
-  pub told : reads.told a.plan ≡ Some bytes
+  pub told : bytes_of reads.told a.plan ≡ Some bytes
   pub plan : Plan
   pub is : served p bytes ≡ Ok plan
   pub task : IsTaskWell reads plan a.task

@@ -1,3 +1,4 @@
 pub mod Completes
 pub mod Outcome
+pub mod Refuses
 pub mod Stops

@@ -1,11 +1,13 @@
 use Rattle.std.specs.Prelude.{◌≡◌, ◌⊎◌, ℕ, zero, suc, ◌<◌, ◌≤◌, List, length, Option, Some, None, Ok, Err}
 use Rattle.flow_outside.specs.Causes.{Rose}
-use Rattle.flow_outside.specs.Told.{IfTold, AppendsPrefix, AppendsProperPrefix}
+use Rattle.flow_outside.specs.Told.{AppendsPrefix, AppendsProperPrefix}
+use Rattle.flow_outside.specs.Files.{Files, IfFileTold}
 use Rattle.flow_types.specs.Tuples.{Tuple}
 use Rattle.flow_model.specs.declared.plan.Node.{Node}
 use Rattle.flow_model.specs.declared.plan.Plan.{Plan}
 use Rattle.flow_model.specs.declared.plan_code.PlanCode.{PlanCode}
 use Rattle.flow_model.specs.Algebra.{eval}
+use Rattle.flow_model.specs.Rules.{IsPlan}
 use Rattle.flow_model.specs.Segments.{widest_record, minimum}
 use Rattle.plan_text.specs.declared.fault.PlanFault.TheVariants as plan_fault
 use Rattle.delim_io.specs.declared.input_kind.InputKind.{InputKind}
@@ -19,17 +21,18 @@ use Rattle.job_report.specs.Effects.{Reads, Writes, WritesNothing, WritesAll, Re
 use Rattle.job_report.specs.Lines.{report_of, status_of, check_text, need_text}
 use Rattle.job_inputs.specs.Served.{served}
 use Rattle.job_inputs.specs.Sources.{sources_of, unbound_name}
-use Rattle.job_inputs.specs.Inputs.{Files, path_of, input_rows, HaveRows, StopsAt}
+use Rattle.job_inputs.specs.Inputs.{path_of, input_rows, HaveRows, StopsAt}
 
 -- What a run of a program does: a relation of the words, the shelf and the two sinks before to the status, the fault, the
 -- shelf and the sinks after. Where a shelf or a sink doesn't tell its contents, what is said of them is open and the causes
--- stand alone.
+-- stand alone. Where the shelf tells, a file of which something is said is there.
 
 -- ---- what the files say
 
--- The file that the words name is this plan, as the program serves it.
-abbrev pub HasPlan : Program → Files → Asked → Plan → Type 0
-HasPlan p files a plan = IfTold (files a.plan) (λ bytes. served p bytes ≡ Ok plan)
+-- The file that the words name is this plan, as the program serves it, and the plan keeps the rules of plans.
+pub record HasPlan (p : Program) (files : Option Files) (a : Asked) (plan : Plan) : Type 0 where
+  pub told : IfFileTold files a.plan (λ bytes. served p bytes ≡ Ok plan)
+  pub rules : IsPlan plan
 
 -- the segments are enough, where a run has a budget
 abbrev pub IsEnough : Plan → Option Budget → Type 0
@@ -37,14 +40,14 @@ IsEnough plan None = Unit {0}
 IsEnough plan (Some b) = minimum plan b.workers ≤ b.segments
 
 -- A run may read its inputs: its words bind each source once and nothing else, and its segments are enough.
-pub record MayRun (p : Program) (files : Files) (a : Asked) (plan : Plan) (budget : Option Budget) (bindings : List Binding) : Type 0 where
+pub record MayRun (p : Program) (files : Option Files) (a : Asked) (plan : Plan) (budget : Option Budget) (bindings : List Binding) : Type 0 where
   pub asks : a.task ≡ Task.run budget bindings
   pub has : HasPlan p files a plan
   pub bound : unbound_name bindings plan ≡ None
   pub enough : IsEnough plan budget
 
 -- The text is that of a run's result: the algebra's, over the rows that the inputs have.
-pub record HasResult (p : Program) (files : Files) (a : Asked) (budget : Option Budget) (bindings : List Binding) (text : List ℕ) : Type 0 where
+pub record HasResult (p : Program) (files : Option Files) (a : Asked) (budget : Option Budget) (bindings : List Binding) (text : List ℕ) : Type 0 where
   pub plan : Plan
   pub may : MayRun p files a plan budget bindings
   pub lists : List (List Tuple)
@@ -52,13 +55,13 @@ pub record HasResult (p : Program) (files : Files) (a : Asked) (budget : Option 
   pub is : text ≡ text_of (eval plan lists)
 
 -- the text that a task with a plan in a file has
-abbrev pub HasTaskText : Program → Files → Asked → List ℕ → Task → Type 0
+abbrev pub HasTaskText : Program → Option Files → Asked → List ℕ → Task → Type 0
 HasTaskText p files a text Task.check = (plan : Plan) × (HasPlan p files a plan × (text ≡ check_text (length plan.nodes) (widest_record plan)))
 HasTaskText p files a text (Task.need workers) = (plan : Plan) × (HasPlan p files a plan × (text ≡ need_text (minimum plan workers)))
 HasTaskText p files a text (Task.run budget bindings) = HasResult p files a budget bindings text
 
 -- the text that is asked for
-abbrev pub HasText : Program → Files → Asked → List ℕ → Type 0
+abbrev pub HasText : Program → Option Files → Asked → List ℕ → Type 0
 HasText p files a text = HasTaskText p files a text a.task
 
 -- ---- how a run ends
@@ -72,7 +75,7 @@ pub record EndsWell (p : Program) (reads : Reads) (out : Writes) (a : Asked) : T
 
 -- Status 3: the plan's file is refused, with this first fault. Nothing was written.
 pub record EndsAtPlan (p : Program) (reads : Reads) (out : Writes) (a : Asked) (node : ℕ) (why : PlanCode) : Type 0 where
-  pub refused : IfTold (reads.told a.plan) (λ bytes. served p bytes ≡ Err (plan_fault.Refused node why))
+  pub refused : IfFileTold reads.told a.plan (λ bytes. served p bytes ≡ Err (plan_fault.Refused node why))
   pub silent : WritesNothing out
 
 -- Status 12: the words don't bind each source once and nothing else. Nothing was written.
@@ -121,7 +124,7 @@ pub record EndsAtInput (p : Program) (reads : Reads) (out : Writes) (a : Asked) 
   pub at_line : line ≡ 0
   pub at_field : field ≡ 0
   pub not_built : why ≡ kind.NotBuilt
-  pub refused : IfTold (reads.told (path_of at.bindings at.source)) (λ bytes. input_rows at.source bytes ≡ None)
+  pub refused : IfFileTold reads.told (path_of at.bindings at.source) (λ bytes. input_rows at.source bytes ≡ None)
 
 -- Status 8: the output failed, and a proper prefix of the text was written.
 pub record EndsAtWrite (p : Program) (reads : Reads) (out : Writes) (a : Asked) : Type 0 where

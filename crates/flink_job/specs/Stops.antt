@@ -1,6 +1,7 @@
 use Rattle.std.specs.Prelude.{◌≡◌, ℕ, ◌<◌, ◌≤◌, List, [], Option, Some, None}
 use Rattle.flow_outside.specs.Causes.{Rose}
 use Rattle.flow_outside.specs.Told.{Appends, AppendsPrefix, AppendsProperPrefix}
+use Rattle.flow_outside.specs.Files.{Files}
 use Rattle.job_words.specs.declared.program.Program.{Program}
 use Rattle.flow_model.specs.declared.plan.Plan.{Plan}
 use Rattle.flow_model.specs.Segments.{minimum}
@@ -9,7 +10,6 @@ use Rattle.job_report.specs.declared.fault.Fault.{Fault}
 use Rattle.job_report.specs.declared.fault.Fault.TheVariants as fault
 use Rattle.job_report.specs.Effects.{Reads, Writes}
 use Rattle.job_inputs.specs.declared.inputs.Stopped.{Stopped}
-use Rattle.job_inputs.specs.Inputs.{Files}
 use Rattle.flink_job.specs.Outcome.{HasPlan, IsEnough, Ends}
 
 -- How the steps of a run end.
@@ -46,7 +46,7 @@ name_in (Some s) = s.name.now
 -- How a run of a plan ends, by what files tell, their counts of faults before and after, and how many readers live
 -- afterwards: whatever words asked for it, whatever file it is the plan of, and whatever lower counts are taken for those
 -- before.
-abbrev pub EndsRun : Files → (counts after : List ℕ → ℕ) → (living : ℕ) → Writes → Plan → Option Budget → List Binding → Option Stopped → Type 0
+abbrev pub EndsRun : Option Files → (counts after : List ℕ → ℕ) → (living : ℕ) → Writes → Plan → Option Budget → List Binding → Option Stopped → Type 0
 EndsRun files counts after living out plan budget bindings stopped =
     (p : Program) (a : Asked) (before : List ℕ → ℕ) → ((k : List ℕ) → before k ≤ counts k)
     → a.task ≡ Task.run budget bindings → HasPlan p files a plan

@@ -8,7 +8,6 @@ use crate::demand::Demand;
 use crate::shares::{Shares, solution_bytes};
 use crate::states::first_of_delta;
 use flow_model::made::Made;
-use flow_model::op::Op;
 use flow_model::plan::{Node, Plan};
 use flow_model::rows::{Inputs, Rows};
 use flow_outside::failure::Memory;
@@ -85,30 +84,8 @@ fn first_of_node(
         (λ first. option_map seen first ≡ first_of_op shares.workers shares.have (given (source_numbers nodes.now) inputs.now) nodes.now made.old.items node.now.number node.now.op) }
     ensures made { IfOk result (λ _. made.new.items ≡ made.old.items) }
 {
-    match &node.op {
-        Op::Delta {
-            solution,
-            workset,
-            key,
-            order,
-            merge,
-            max,
-            delta,
-            next,
-            ..
-        } => {
-            let delta = Delta {
-                solution: *solution,
-                workset: *workset,
-                key: key.as_slice(),
-                order: order.as_slice(),
-                merge: *merge,
-                most: *max,
-                delta: *delta,
-                next: *next,
-            };
-            first_of_delta(alloc, nodes, inputs, made, node.number, &delta, shares)
-        }
-        _ => Ok(None),
+    match Delta::of(&node.op) {
+        Some(delta) => first_of_delta(alloc, nodes, inputs, made, node.number, &delta, shares),
+        None => Ok(None),
     }
 }

@@ -1,5 +1,5 @@
-ghost use Rattle.std.specs.Prelude.{◌≡◌, ◌≤◌, ◌<◌, ◌↔◌, ◌+◌, ◌/◌, ℕ, IfOk, IsErr, if◌then◌else◌};
-ghost use Rattle.flow_model.specs.Segments.{minimum, has_delta, solution_minimum};
+ghost use Rattle.std.specs.Prelude.{◌≡◌, ◌≤◌, ◌<◌, ◌↔◌, ◌+◌, ◌*◌, ◌/◌, ℕ, IfOk, IsErr, if◌then◌else◌};
+ghost use Rattle.flow_model.specs.Segments.{minimum, reach, has_delta, solution_minimum};
 ghost use Rattle.flow_model.specs.Rules.{IsPlan};
 ghost use Rattle.plan_need.specs.Allotments.{allotment};
 ghost use Rattle.plan_need.specs.declared.budget.TooSmall.{TooSmall};
@@ -9,7 +9,8 @@ use crate::need::{exchange_part, has_delta, minimum, solution_minimum, worker_mi
 use flow_model::plan::Plan;
 
 /// Divides a budget of at most 65,536 segments among 1 to 32 workers; `TooSmall` exactly where it is
-/// below the plan's minimum.
+/// below the plan's minimum. Each worker's work has at least its minimum, and all shares together are
+/// within the budget.
 pub fn allot(plan: &Plan, w: u32, budget: u32) -> Result<Allot, TooSmall>
     requires plan { IsPlan plan.now }
     requires least { 1 ≤ w }
@@ -18,6 +19,8 @@ pub fn allot(plan: &Plan, w: u32, budget: u32) -> Result<Allot, TooSmall>
     ensures small { IsErr result ↔ (budget < minimum plan.now w) }
     ensures told { (fault : TooSmall) → result ≡ Err fault → fault ≡ record { need = minimum plan.now w; have = budget } }
     ensures parts { IfOk result (λ parts. parts ≡ allotment plan.now w budget) }
+    ensures enough { IfOk result
+        (λ parts. (8 + 4 * reach plan.now ≤ parts.work) × (w * parts.share ≤ budget)) }
 {
     let need = minimum(plan, w);
     let have = u64::from(budget);

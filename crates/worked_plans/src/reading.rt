@@ -10,11 +10,18 @@ const SOURCE: &str =
 /// What stands round the nodes of a plan.
 const PLAN: (&str, &str) = (r#"{"version":1,"nodes":["#, r#"],"result":"t"}"#);
 
+/// What stands round the further nodes of a body within a body, whose first node is faulty.
+const NEST: (&str, &str) = (
+    r#"$,{"name":"b","op":"bulk","init":"t","bind":"s","max":1,"body":[{"name":"c","op":"bulk","init":"s","bind":"x","max":1,"body":[7"#,
+    r#"],"next":"x"}],"next":"s"}"#,
+);
+
 /// What stands round the columns of node 2.
 const MAP: (&str, &str) = (r#"$,{"name":"m","op":"map","input":"t","columns":["#, "]}");
 
 /// Plans, and what is read of them.
 const PLANS: &str = r#"{"version":1,"nodes":[$],"result":"t"} => 32768 t 1/0
+{"version":1,"nodes":[$,{"name":"b","op":"bulk","init":"t","bind":"s","max":1,"body":[{"name":"c","op":"bulk","init":"s","bind":"x","max":1,"body":[{"name":"q","op":"distinct","input":"x"}],"next":"x"},{"name":"a","op":"distinct","input":"s"}],"next":"s"},{"name":"u","op":"distinct","input":"t"}],"result":"t"} => 32768 t 1/0 2/0 3/2 4/3 5/2 6/0
 {"version":1,"segment":4096,"nodes":[$],"result":"t"} => 4096 t 1/0
 {"version":2,"nodes":[7],"version":1,"nodes":[$],"result":"t"} => 32768 t 1/0
 {"version":1,"segment":5000,"nodes":[$],"result":"t"} => 0 BadPlan
@@ -224,6 +231,13 @@ fn plans_end_at_their_limits(rt: HostRuntime) -> Result<(), Fail> {
     assert_eq!(rt; answer(alloc, plan.as_bytes())?.as_str(), "2 BadNode");
     let plan = plan_of(alloc, "$,7", faulty.as_str(), "")?;
     assert_eq!(rt; answer(alloc, plan.as_bytes())?.as_str(), "0 TooMany");
+
+    let nested = copies(alloc, ",7", 61)?;
+    let plan = plan_of(alloc, NEST.0, nested.as_str(), NEST.1)?;
+    assert_eq!(rt; answer(alloc, plan.as_bytes())?.as_str(), "0 TooMany");
+    let nested = copies(alloc, ",7", 60)?;
+    let plan = plan_of(alloc, NEST.0, nested.as_str(), NEST.1)?;
+    assert_eq!(rt; answer(alloc, plan.as_bytes())?.as_str(), "4 BadNode");
 
     let mut plan = plan_of(alloc, "", "$", "")?;
     let blanks = copies(alloc, " ", 1_048_576 - plan.len().min(1_048_576))?;
