@@ -2,10 +2,23 @@ use Rattle.std.proofs.Common.{List, ℕ, sym, ap, ◌∙◌}
 use Rattle.flow_types.specs.Types.{Fields}
 use Rattle.flow_model.specs.Schemas.{input_at}
 use Rattle.plan_typing.specs.Typing.{typed_op}
-use Rattle.plan_typing.specs.Ops.{typed_flat_map, typed_group}
+use Rattle.plan_typing.specs.Ops.{typed_filter, typed_flat_map, typed_group, typed_map}
 use Rattle.plan_typing.specs.Sides.{SideTypes, sides_of, side_types, typed_join, typed_probe, typed_cogroup}
 use Rattle.plan_typing.proofs.OpLemmas.{on_ok}
 use Rattle.plan_typing.proofs.ops.type_op.Goals as goal
+
+pub returns-in-Map : goal.returns-in-Map
+returns-in-Map c =
+    on_ok c.type_map.result (typed_map c.input_at-first.result.now c.as_slice-in-Map.result.now) (typed_op c.args.inputs.now c.args.home_key.now c.args.op.now) c.type_map.ensures
+    (ap (λ (f : Fields). typed_map f c.as_slice-in-Map.result.now) c.input_at-first.ensures
+    ∙ ap (typed_map (input_at c.args.inputs.now 0)) c.as_slice-in-Map.ensures
+    ∙ ap (typed_op c.args.inputs.now c.args.home_key.now) (sym c.in-Map.is))
+
+pub returns-in-Filter : goal.returns-in-Filter
+returns-in-Filter c =
+    on_ok c.type_filter.result (typed_filter c.input_at-first.result.now c.in-Filter.test) (typed_op c.args.inputs.now c.args.home_key.now c.args.op.now) c.type_filter.ensures
+    (ap (λ (f : Fields). typed_filter f c.in-Filter.test) c.input_at-first.ensures
+    ∙ ap (typed_op c.args.inputs.now c.args.home_key.now) (sym c.in-Filter.is))
 
 pub returns-in-FlatMap : goal.returns-in-FlatMap
 returns-in-FlatMap c =
