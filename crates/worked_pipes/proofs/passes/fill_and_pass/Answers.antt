@@ -10,8 +10,8 @@ fill-requires-clause-room g c = omega (arith, c.requires.room, none_held c.args.
 pub fill-requires-clause-supply : goal.fill-requires-clause-supply
 fill-requires-clause-supply g c = omega (arith, c.requires.enough)
 
-pub returns-in-Err-fill : goal.returns-in-Err-fill
-returns-in-Err-fill g c =
+pub returns-in-Err : goal.returns-in-Err
+returns-in-Err g c =
     first_written _ _ c.args.purse.now c.fill.new.purse c.args.input.now c.fill.new.lot c.args.out.now c.fill.ensures
 
 pub rest-requires : goal.rest-requires

@@ -23,8 +23,24 @@ drop_lot-second-requires-clause-ready g c =
     ready_untold _ c.fill_and_pass-answer.new.out c.drop_lot-first.new.purse (untold_on _ _ _ (untold_on _ _ _ c.requires.untold c.fill_and_pass-answer.ensures.told) c.drop_lot-first.ensures.preserves.told)
     (omega (arith, both_count _ _ c.take.new.self c.fill_and_pass-answer.new.purse c.args.input c.fill_and_pass-answer.new.input c.args.out c.fill_and_pass-answer.new.out c.fill_and_pass-answer.ensures, taken_count c.args.purse.now.pages c.take.new.self.pages c.take.result c.in-Some.spare c.in-Some.is c.take.ensures.segments, put_count c.fill_and_pass-answer.new.purse.pages c.put.new.self.pages c.in-Some.spare c.put.ensures.pages, count_one _ _ c.fill_and_pass-answer.new.input c.drop_lot-first.new.self c.put.new.self c.drop_lot-first.new.purse _ c.drop_lot-first.ensures.preserves, c.drop_lot-first.ensures.preserves.purse_room, c.put.ensures.room, c.requires.room, c.take.ensures.room, c.fill_and_pass-answer.ensures.purse_room, none_held c.args.input c.args.input.stored.room 3 c.requires.fresh, none_held c.args.out c.args.input.stored.room 3 c.requires.fresh_out))
 
-pub returns-in-Some : goal.returns-in-Some
-returns-in-Some g c =
+pub returns-in-Ok-second : goal.returns-in-Ok-second
+returns-in-Ok-second g c =
+    both_home _ _ _ _ _ c.args.purse.now c.take.new.self c.fill_and_pass-answer.new.purse c.put.new.self c.drop_lot-first.new.purse c.drop_lot-second.new.purse
+    c.args.input c.fill_and_pass-answer.new.input c.drop_lot-first.new.self c.args.out c.fill_and_pass-answer.new.out c.drop_lot-second.new.self c.in-Some.spare _ _
+    (subst (λ r. (h : ℕ → ℕ → ℕ) → segment_sum h c.take.new.self.pages + segment_sum h (option_to_list r) ≡ segment_sum h c.args.purse.now.pages) c.in-Some.is c.take.ensures.segments)
+    c.fill_and_pass-answer.ensures c.put.ensures.segments c.drop_lot-first.ensures.preserves c.drop_lot-second.ensures.preserves
+    (ap held c.requires.fresh) (ap held c.requires.fresh_out) (ap held c.drop_lot-first.ensures.empty) (ap held c.drop_lot-second.ensures.empty)
+
+pub returns-in-Err-second : goal.returns-in-Err-second
+returns-in-Err-second g c =
+    both_home _ _ _ _ _ c.args.purse.now c.take.new.self c.fill_and_pass-answer.new.purse c.put.new.self c.drop_lot-first.new.purse c.drop_lot-second.new.purse
+    c.args.input c.fill_and_pass-answer.new.input c.drop_lot-first.new.self c.args.out c.fill_and_pass-answer.new.out c.drop_lot-second.new.self c.in-Some.spare _ _
+    (subst (λ r. (h : ℕ → ℕ → ℕ) → segment_sum h c.take.new.self.pages + segment_sum h (option_to_list r) ≡ segment_sum h c.args.purse.now.pages) c.in-Some.is c.take.ensures.segments)
+    c.fill_and_pass-answer.ensures c.put.ensures.segments c.drop_lot-first.ensures.preserves c.drop_lot-second.ensures.preserves
+    (ap held c.requires.fresh) (ap held c.requires.fresh_out) (ap held c.drop_lot-first.ensures.empty) (ap held c.drop_lot-second.ensures.empty)
+
+pub returns-in-Err : goal.returns-in-Err
+returns-in-Err g c =
     both_home _ _ _ _ _ c.args.purse.now c.take.new.self c.fill_and_pass-answer.new.purse c.put.new.self c.drop_lot-first.new.purse c.drop_lot-second.new.purse
     c.args.input c.fill_and_pass-answer.new.input c.drop_lot-first.new.self c.args.out c.fill_and_pass-answer.new.out c.drop_lot-second.new.self c.in-Some.spare _ _
     (subst (λ r. (h : ℕ → ℕ → ℕ) → segment_sum h c.take.new.self.pages + segment_sum h (option_to_list r) ≡ segment_sum h c.args.purse.now.pages) c.in-Some.is c.take.ensures.segments)
