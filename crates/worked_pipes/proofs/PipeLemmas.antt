@@ -1,5 +1,5 @@
 -- How many segments two lots and their purse have.
-use Rattle.std.proofs.Common.{◌≡◌, ◌≢◌, ℕ, zero, suc, ◌+◌, ◌<◌, ◌≤◌, Bool, true, List, [], ◌∷◌, ◌++◌, length, All, IsTrue, Result, Ok, Err, OnOk, Option, Some, None, option_to_list, get_or, refl, sym, ap, ◌∙◌, subst, arith, length-append}
+use Rattle.std.proofs.Common.{◌≡◌, ℕ, zero, suc, ◌+◌, ◌<◌, ◌≤◌, Bool, true, List, [], ◌∷◌, ◌++◌, length, All, IsTrue, Result, Ok, Err, OnOk, Option, Some, None, option_to_list, get_or, refl, sym, ap, ◌∙◌, subst, arith, length-append}
 use Rattle.std.proofs.lemmas.List.Sums.{sum_by-cons}
 use Rattle.flow_model.specs.declared.plan.Node.{Node}
 use Rattle.flow_model.specs.declared.plan.Plan.{Plan}
@@ -89,8 +89,25 @@ pub both_home : (t u v w k : Option Blocks) (o p q r s z : PurseView) (a b c x y
     → Preserves (alone u r b) (alone v s c) (0 ∷ []) (0 ∷ []) first → Preserves (alone w s y) (alone k z d) (0 ∷ []) (0 ∷ []) second
     → held a ≡ [] → held x ≡ [] → held c ≡ [] → held d ≡ [] → (h : ℕ → ℕ → ℕ) → segment_sum h z.pages ≡ segment_sum h o.pages
 both_home t u v w k o p q r s z a b c x y d page first second taken both put drop_first drop_second none none_too gone gone_too h =
-    omega (arith, taken h, both.segments h, put h, drop_first.segments h, drop_second.segments h, one a (x ∷ []), one x [], one b (y ∷ []), one y [], one b [], one c [], one d [],
-    ap (segment_sum h) none, ap (segment_sum h) none_too, ap (segment_sum h) gone, ap (segment_sum h) gone_too)
+    omega (
+      arith,
+      taken h,
+      both.segments h,
+      put h,
+      drop_first.segments h,
+      drop_second.segments h,
+      one a (x ∷ []),
+      one x [],
+      one b (y ∷ []),
+      one y [],
+      one b [],
+      one c [],
+      one d [],
+      ap (segment_sum h) none,
+      ap (segment_sum h) none_too,
+      ap (segment_sum h) gone,
+      ap (segment_sum h) gone_too,
+    )
   where
     one : (lot : LotView) (lots : List LotView) → held_sum h (lot ∷ lots) ≡ segment_sum h (held lot) + held_sum h lots
     one lot lots = sum_by-cons (λ (m : LotView). segment_sum h (held m)) lot lots

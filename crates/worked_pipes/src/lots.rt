@@ -5,11 +5,11 @@ ghost use Rattle.worked_lots.specs.Worked.{CanRewind, ReadsOn};
 
 use flow_outside::failure::StreamFault;
 use flow_outside::spill::Spill;
-use span_bytes::span::Span;
 use lot_store::lot::Lot;
 use paged_view::record_ref::RecordRef;
 use paged_view::stream::RecordStream;
 use segment_core::Purse;
+use span_bytes::span::Span;
 
 /// Adds so many records: those of the list, over and over. Each has at most 4,000 bytes; a longer one is passed over.
 pub(crate) fn fill<D: Spill>(

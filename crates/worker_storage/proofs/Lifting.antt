@@ -1,5 +1,5 @@
 -- From the lots at some places to all lots of a storage.
-use Rattle.std.proofs.Common.{Result, Ok, Err, OnOk, ◌≡◌, ◌≢◌, ◌⊎◌, inl, inr, ℕ, zero, suc, ◌+◌, ◌<◌, ◌≤◌, Bool, true, false, All, List, [], ◌∷◌, ◌++◌, length, map, Option, Some, None, refl, sym, ap, ◌∙◌, subst, arith, is_ok, append-nil, sum_by, cond, not, ◌==◌, take, drop}
+use Rattle.std.proofs.Common.{Result, Ok, Err, OnOk, ◌≡◌, ◌≢◌, inl, inr, ℕ, zero, suc, ◌+◌, ◌<◌, ◌≤◌, Bool, true, false, All, List, [], ◌∷◌, ◌++◌, length, map, Option, Some, None, refl, sym, ap, ◌∙◌, subst, arith, is_ok, append-nil, sum_by, cond, not, ◌==◌, take, drop}
 use Rattle.std.proofs.Math.ListN.{drop_of_length-le}
 use Rattle.std.proofs.lemmas.List.{take_all}
 use Rattle.std.proofs.lemmas.Bool.{cases_eq, cases_lt}
@@ -23,7 +23,7 @@ use Rattle.row_pipe.specs.Pipes.{GivesRows, GivesWithin, HoldsTuples, HoldsWhatF
 use Rattle.row_pipe.proofs.Turning.{cause_later}
 use Rattle.row_pipe.specs.Works.{piped}
 use Rattle.row_pipe.specs.declared.work.Work.{Work}
-use Rattle.lot_store.specs.Storage.{AreBelow, IsNoneOf, IsReady, IsReadyAt, Preserves, Stand, StaysStanding, StorageView, alone, held_count, lot_at, owners, pair, part_of, places_at, with_segment}
+use Rattle.lot_store.specs.Storage.{IsNoneOf, IsReady, IsReadyAt, Preserves, Stand, StaysStanding, StorageView, alone, held_count, lot_at, places_at, with_segment}
 use Rattle.lot_store.proofs.LotLemmas.{on_ok_map}
 use Rattle.lot_store.proofs.RowsRead.{gains_of, rows_read}
 use Rattle.lot_store.proofs.SpillLemmas.{told_with}
@@ -31,7 +31,6 @@ use Rattle.lot_store.proofs.StorageLaws.{counts_after, freed_all, preserves_join
 use Rattle.lot_store.proofs.StorageLot.{one_stands}
 use Rattle.lot_store.proofs.StorageSums.{picked, split_sum}
 use Rattle.lot_store.proofs.Telling.{told_map, told_weaker}
-use Rattle.lot_store.specs.Laws.{WasKept}
 use Rattle.worker_storage.specs.Storages.{FreesAll, HoldsSome, IsShort, KeepsStorage, MayRead, Storage, all_places, given, view_of}
 
 -- the storage's purse, disk and lots

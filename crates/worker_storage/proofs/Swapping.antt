@@ -1,5 +1,5 @@
 -- Two lots of a storage change their places, or one with a lot from outside.
-use Rattle.std.proofs.Common.{◌≡◌, ◌≢◌, ◌⊎◌, inl, inr, ℕ, zero, suc, ◌+◌, ◌<◌, ◌≤◌, true, All, List, [], ◌∷◌, ◌++◌, length, Option, Some, None, refl, sym, ap, ◌∙◌, subst, arith, sum_by, slice_index_or, length-append, get_or, set}
+use Rattle.std.proofs.Common.{◌≡◌, ◌≢◌, inl, inr, ℕ, zero, suc, ◌+◌, ◌<◌, true, List, [], ◌∷◌, ◌++◌, length, Option, refl, sym, ap, ◌∙◌, subst, arith, sum_by, length-append, get_or, set}
 use Rattle.std.specs.List.{swap}
 use Rattle.std.proofs.lemmas.Bool.{cases_eq}
 use Rattle.std.proofs.lemmas.List.{get_or-set_same, get_or-set_other, length-set}
@@ -7,10 +7,9 @@ use Rattle.std.proofs.lemmas.List.Edits.{swap_is, length-swap}
 use Rattle.std.proofs.lemmas.List.Sums.{sum_by-append, sum_by-cons}
 use Rattle.std.proofs.lemmas.List.Sorted.{IsPermutation-swap, sum_by-IsPermutation}
 use Rattle.segment_core.specs.Segments.{PurseView, SegmentView, count_other_size, segment_sum}
-use Rattle.flow_outside.specs.Blocks.{Blocks, BothTold}
-use Rattle.flow_outside.specs.Told.{IfTold}
+use Rattle.flow_outside.specs.Blocks.{Blocks}
 use Rattle.lot_store.specs.Lots.{LotView, held, pages_of}
-use Rattle.lot_store.specs.Storage.{IsFreeOrOwned, IsNoneOf, IsReadyAt, Preserves, SparesBlocks, Stand, StandsAt, StaysStanding, StorageView, held_sum, lot_at, owners, times_in}
+use Rattle.lot_store.specs.Storage.{IsFreeOrOwned, IsReadyAt, Preserves, Stand, StandsAt, StaysStanding, lot_at, times_in}
 use Rattle.lot_store.proofs.Telling.{told_same, told_weaker}
 use Rattle.worker_storage.proofs.Lifting.{whole}
 

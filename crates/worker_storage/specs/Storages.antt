@@ -1,5 +1,5 @@
 -- A worker's storage as contracts see it, and what its calls keep. The rules are this project's own.
-use Rattle.std.specs.Prelude.{◌≡◌, ℕ, ◌+◌, ◌-◌, ◌/◌, ◌<◌, ◌≤◌, Bool, List, [], ◌∷◌, ◌++◌, length, map, Option, Some, None, slice_set}
+use Rattle.std.specs.Prelude.{◌≡◌, ℕ, ◌+◌, ◌-◌, ◌/◌, ◌<◌, ◌≤◌, Bool, List, [], ◌∷◌, ◌++◌, length, map, Option, None}
 use Rattle.std.specs.List.{range_with_len}
 use Rattle.segment_core.specs.Segments.{PurseView}
 use Rattle.flow_outside.specs.Blocks.{Blocks}
@@ -7,7 +7,7 @@ use Rattle.flow_model.specs.Env.{Tuples}
 use Rattle.flow_types.specs.Types.{Fields}
 use Rattle.lot_store.specs.Lots.{LotView, held}
 use Rattle.lot_store.specs.Rows.{rows_of}
-use Rattle.lot_store.specs.Storage.{IsReadyAt, Preserves, StorageView, lot_at, owners}
+use Rattle.lot_store.specs.Storage.{Preserves, StorageView, lot_at, owners}
 use Rattle.flow_types.specs.Records.{form, tuple_of}
 use Rattle.row_pipe.specs.Pipes.{HoldsTuples}
 use Rattle.row_pipe.specs.Works.{piped}

@@ -65,6 +65,13 @@ impl<D: Spill> WorkerStorage<D> {
         }
     }
 
+    /// What is true of every storage: all of it stands together. It does nothing, and is called for the prover alone.
+    pub fn limits(&self)
+        ensures { IsReadyAt self.now.size (view_of D.told self.now) }
+    {
+        let _ = &self.size;
+    }
+
     /// Takes it apart.
     pub fn into_parts(self) -> (Purse, D, Vec<Lot>)
         ensures purse { result.0 ≡ self.purse }

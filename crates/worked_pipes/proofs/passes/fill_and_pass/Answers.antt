@@ -17,8 +17,14 @@ returns-in-Err g c =
 pub rest-requires : goal.rest-requires
 rest-requires g c =
     ready_untold _ c.fill.new.lot c.fill.new.purse (untold_on _ _ _ c.requires.untold c.fill.ensures.told)
-    (omega (arith, both_count _ _ c.args.purse.now c.fill.new.purse c.args.input.now c.fill.new.lot c.args.out.now c.args.out.now (first_written _ _ c.args.purse.now c.fill.new.purse c.args.input.now c.fill.new.lot c.args.out.now c.fill.ensures),
-    c.requires.room, c.fill.ensures.purse_room, none_held c.args.input.now c.args.input.now.stored.room 3 c.requires.fresh, none_held c.args.out.now c.args.input.now.stored.room 3 c.requires.fresh_out))
+    (omega (
+      arith,
+      both_count _ _ c.args.purse.now c.fill.new.purse c.args.input.now c.fill.new.lot c.args.out.now c.args.out.now (first_written _ _ c.args.purse.now c.fill.new.purse c.args.input.now c.fill.new.lot c.args.out.now c.fill.ensures),
+      c.requires.room,
+      c.fill.ensures.purse_room,
+      none_held c.args.input.now c.args.input.now.stored.room 3 c.requires.fresh,
+      none_held c.args.out.now c.args.input.now.stored.room 3 c.requires.fresh_out,
+    ))
 
 pub returns-in-Err-rest : goal.returns-in-Err-rest
 returns-in-Err-rest g c =

@@ -1,4 +1,4 @@
-use Rattle.std.proofs.Common.{◌≡◌, sym, subst, arith, length}
+use Rattle.std.proofs.Common.{sym, subst, arith}
 use Rattle.lot_store.specs.Lots.{LotView}
 use Rattle.lot_store.specs.Storage.{lot_at}
 use Rattle.row_pipe.specs.Pipes.{HasPassCause}

@@ -1,4 +1,4 @@
-use Rattle.std.proofs.Common.{[], ◌∷◌, true, ◌≡◌, ◌+◌, ◌<◌, refl, sym, ap, ◌∙◌, subst, arith, length}
+use Rattle.std.proofs.Common.{[], ◌∷◌, true, refl, sym, ap, ◌∙◌, subst, arith, length}
 use Rattle.lot_store.specs.Storage.{held_count, with_segment}
 use Rattle.lot_store.proofs.StorageLaws.{ready_at_after}
 use Rattle.worker_storage.specs.Storages.{KeepsStorage}

@@ -1,8 +1,8 @@
-use Rattle.std.proofs.Common.{[], ◌∷◌, ◌≡◌, ◌<◌, true, refl, sym, ap, subst, arith, length, is_ok}
+use Rattle.std.proofs.Common.{ap, subst, arith, length, is_ok}
 use Rattle.lot_store.specs.Lots.{LotView, empty}
-use Rattle.lot_store.specs.Storage.{IsReadyAt, lot_at}
-use Rattle.worker_storage.specs.Storages.{KeepsStorage, all_places, view_of}
-use Rattle.worker_storage.proofs.Lifting.{cause_first, empty_more, frees_all, keeps_more, keeps_nothing, purse_grows}
+use Rattle.lot_store.specs.Storage.{IsReadyAt}
+use Rattle.worker_storage.specs.Storages.{all_places, view_of}
+use Rattle.worker_storage.proofs.Lifting.{cause_first, empty_more, frees_all, keeps_more, purse_grows}
 use Rattle.worker_storage.proofs.storage.WorkerStorage.drop_all.Goals as goal
 
 pub loop-at-preserved : goal.loop-at-preserved

@@ -1,4 +1,4 @@
-use Rattle.std.proofs.Common.{◌≡◌, ℕ, ◌<◌, ◌≤◌, length, is_ok}
+use Rattle.std.proofs.Common.{◌≡◌, ℕ, ◌<◌, length, is_ok}
 use Rattle.flow_outside.specs.Causes.{HasStreamCause}
 use Rattle.lot_store.specs.Lots.{LotView, empty}
 use Rattle.lot_store.specs.Storage.{lot_at}

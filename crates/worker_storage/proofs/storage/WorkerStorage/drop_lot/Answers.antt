@@ -1,10 +1,7 @@
-use Rattle.std.proofs.Common.{[], ◌∷◌, true, refl, sym, subst, arith, length, is_ok, OnOk}
-use Rattle.flow_outside.specs.Blocks.{BothTold}
-use Rattle.lot_store.specs.Rows.{Gains}
-use Rattle.lot_store.specs.Storage.{lot_at}
+use Rattle.std.proofs.Common.{[], ◌∷◌, refl, subst, is_ok}
 use Rattle.lot_store.proofs.StorageLaws.{ready_at_after}
-use Rattle.worker_storage.specs.Storages.{IsShort, KeepsStorage}
-use Rattle.worker_storage.proofs.Lifting.{gained_none, gained_row, lifted, low_in, ready_at, whole}
+use Rattle.worker_storage.specs.Storages.{KeepsStorage}
+use Rattle.worker_storage.proofs.Lifting.{lifted, low_in, ready_at, whole}
 use Rattle.worker_storage.proofs.storage.WorkerStorage.drop_lot.Goals as goal
 
 pub invariant_of-self : goal.invariant_of-self

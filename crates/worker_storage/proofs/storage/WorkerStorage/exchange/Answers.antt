@@ -1,4 +1,4 @@
-use Rattle.std.proofs.Common.{[], ◌∷◌, ◌++◌, refl, sym, ap, ◌∙◌, subst, arith, length, set}
+use Rattle.std.proofs.Common.{[], ◌∷◌, ◌++◌, sym, subst, set}
 use Rattle.lot_store.specs.Lots.{LotView}
 use Rattle.lot_store.specs.Storage.{IsReadyAt, lot_at}
 use Rattle.worker_storage.specs.Storages.{view_of, with_lot}

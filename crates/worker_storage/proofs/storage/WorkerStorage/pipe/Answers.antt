@@ -1,4 +1,4 @@
-use Rattle.std.proofs.Common.{[], ◌∷◌, ◌≡◌, true, refl, sym, subst, length, OnOk}
+use Rattle.std.proofs.Common.{[], ◌∷◌, true, refl, sym, subst, OnOk}
 use Rattle.flow_outside.specs.Blocks.{BothTold}
 use Rattle.flow_outside.specs.Told.{IfTold}
 use Rattle.lot_store.specs.Lots.{LotView}
