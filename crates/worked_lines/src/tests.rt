@@ -1,4 +1,4 @@
-ghost use Rattle.std.specs.Prelude.{◌≡◌, Some, false};
+ghost use Rattle.std.specs.Prelude.{◌≡◌, Some};
 
 use delim_io::first_form::read_packed;
 use delim_io::input_fault::InputFault;
@@ -12,7 +12,7 @@ use flow_types::schema::Schema;
 use flow_types::text::Text;
 use flow_types::value::Value;
 use record_codec::check::check_bytes;
-use span_bytes::span::Span;
+use record_fixtures::pieces::Pieces;
 use std::alloc::Global;
 use std::test::Fail;
 
@@ -184,36 +184,6 @@ fn writes_what_csv_writes(rt: HostRuntime) -> Result<(), Fail> {
     assert_eq!(rt; out.taken.as_slice(), &want[..20]);
     assert_eq!(rt; out.faults(), 1);
     Ok(())
-}
-
-/// Bytes in pieces of at most `size`.
-#[derive(Clone, Copy)]
-struct Pieces<'a> {
-    bytes: &'a [u8],
-    size: usize,
-}
-
-impl<'a> Span for Pieces<'a> {
-    ghost seen = { λ p. p.bytes.now };
-
-    ghost is_one_piece = { λ p. false };
-
-    fn len(&self) -> usize {
-        self.bytes.len()
-    }
-
-    fn at(&self, i: usize) -> u8 {
-        self.bytes[i]
-    }
-
-    fn piece(&self, from: usize) -> &[u8] {
-        let rest = &self.bytes[from..];
-        &rest[..rest.len().min(self.size.max(1))]
-    }
-
-    fn whole(&self) -> Option<&[u8]> {
-        None
-    }
 }
 
 /// Writes the lines of records, up to the first fault; `None` where one isn't a row's.
