@@ -33,14 +33,19 @@ pub(crate) fn append_at<X: Span, D: Spill>(
     requires there { at < vec_len lots.old }
     requires len { length (X.seen row.now) < 2 ^ 32 }
     requires supply { (d : LotView) → IsSupplied purse.old (lot_at lots.old.items at d) }
-    requires ready { (d : LotView) → IsReady (alone (D.told disk.old) purse.old (lot_at lots.old.items at d)) }
+    requires ready { (d : LotView) → IsReady (alone (D.told disk.old) purse.old
+        (lot_at lots.old.items at d)) }
     ensures added { (d : LotView) → OnOk result (BothTold (D.told disk.old) (D.told disk.new)
-        (AppendsRow (lot_at lots.old.items at d) (lot_at lots.new.items at d) purse.old.pages (X.seen row.now))) }
-    ensures writes { (d : LotView) → Writes (D.told disk.old) (D.told disk.new) purse.old purse.new (lot_at lots.old.items at d) (lot_at lots.new.items at d) }
+        (AppendsRow (lot_at lots.old.items at d) (lot_at lots.new.items at d) purse.old.pages
+        (X.seen row.now))) }
+    ensures writes { (d : LotView) → Writes (D.told disk.old) (D.told disk.new) purse.old purse.new
+        (lot_at lots.old.items at d) (lot_at lots.new.items at d) }
     ensures cause { HasWriteCause (D.fault_count disk.old) (D.fault_count disk.new) result }
-    ensures supply { (d : LotView) → OnOk result (IsSupplied purse.new (lot_at lots.new.items at d)) }
+    ensures supply { (d : LotView) → OnOk result (IsSupplied purse.new
+        (lot_at lots.new.items at d)) }
     ensures count { length lots.new.items ≡ length lots.old.items }
-    ensures same { (i : ℕ) (d : LotView) → i ≢ at → lot_at lots.new.items i d ≡ lot_at lots.old.items i d }
+    ensures same { (i : ℕ) (d : LotView) → i ≢ at →
+        lot_at lots.new.items i d ≡ lot_at lots.old.items i d }
 {
     lots[at].append(row, purse, disk)
 }
@@ -54,13 +59,17 @@ pub(crate) fn append_page_at<D: Spill>(
     disk: &mut D,
 ) -> Result<(), StreamFault>
     requires there { at < vec_len lots.old }
-    requires ready { (d : LotView) → IsReady (alone (D.told disk.old) (with_segment page purse.old) (lot_at lots.old.items at d)) }
+    requires ready { (d : LotView) → IsReady (alone (D.told disk.old) (with_segment page purse.old)
+        (lot_at lots.old.items at d)) }
     ensures added { (d : LotView) → OnOk result (BothTold (D.told disk.old) (D.told disk.new)
         (AppendsPage page (lot_at lots.old.items at d) (lot_at lots.new.items at d))) }
-    ensures writes { (d : LotView) → Writes (D.told disk.old) (D.told disk.new) (with_segment page purse.old) purse.new (lot_at lots.old.items at d) (lot_at lots.new.items at d) }
+    ensures writes { (d : LotView) → Writes (D.told disk.old) (D.told disk.new)
+        (with_segment page purse.old) purse.new (lot_at lots.old.items at d)
+        (lot_at lots.new.items at d) }
     ensures cause { HasWriteCause (D.fault_count disk.old) (D.fault_count disk.new) result }
     ensures count { length lots.new.items ≡ length lots.old.items }
-    ensures same { (i : ℕ) (d : LotView) → i ≢ at → lot_at lots.new.items i d ≡ lot_at lots.old.items i d }
+    ensures same { (i : ℕ) (d : LotView) → i ≢ at →
+        lot_at lots.new.items i d ≡ lot_at lots.old.items i d }
 {
     lots[at].append_page(page, purse, disk)
 }
@@ -73,14 +82,18 @@ pub(crate) fn rest_at<D: Spill>(
     disk: &mut D,
 ) -> Result<(), StreamFault>
     requires there { at < vec_len lots.old }
-    requires ready { (d : LotView) → IsReady (alone (D.told disk.old) purse.old (lot_at lots.old.items at d)) }
+    requires ready { (d : LotView) → IsReady (alone (D.told disk.old) purse.old
+        (lot_at lots.old.items at d)) }
     ensures same_rows { (d : LotView) → OnOk result (BothTold (D.told disk.old) (D.told disk.new)
         (KeepsContents (lot_at lots.old.items at d) (lot_at lots.new.items at d))) }
-    ensures writes { (d : LotView) → Writes (D.told disk.old) (D.told disk.new) purse.old purse.new (lot_at lots.old.items at d) (lot_at lots.new.items at d) }
+    ensures writes { (d : LotView) → Writes (D.told disk.old) (D.told disk.new) purse.old purse.new
+        (lot_at lots.old.items at d) (lot_at lots.new.items at d) }
     ensures cause { HasWriteCause (D.fault_count disk.old) (D.fault_count disk.new) result }
-    ensures rests { (d : LotView) → length (held (lot_at lots.new.items at d)) ≤ (lot_at lots.new.items at d).stored.room }
+    ensures rests { (d : LotView) → length (held (lot_at lots.new.items at d)) ≤
+        (lot_at lots.new.items at d).stored.room }
     ensures count { length lots.new.items ≡ length lots.old.items }
-    ensures same { (i : ℕ) (d : LotView) → i ≢ at → lot_at lots.new.items i d ≡ lot_at lots.old.items i d }
+    ensures same { (i : ℕ) (d : LotView) → i ≢ at →
+        lot_at lots.new.items i d ≡ lot_at lots.old.items i d }
 {
     lots[at].rest(purse, disk)
 }
@@ -94,13 +107,19 @@ pub(crate) fn drop_at<D: Spill>(
 ) -> Result<(), StreamFault>
     requires there { at < vec_len lots.old }
     requires supply { 0 < length purse.old.pages }
-    requires ready { (d : LotView) → IsReady (alone (D.told disk.old) purse.old (lot_at lots.old.items at d)) }
-    ensures empty { (d : LotView) → lot_at lots.new.items at d ≡ empty (lot_at lots.old.items at d).stored.room (lot_at lots.old.items at d).feed.reach }
-    ensures preserves { (d : LotView) → Preserves (alone (D.told disk.old) purse.old (lot_at lots.old.items at d))
-        (alone (D.told disk.new) purse.new (lot_at lots.new.items at d)) (0 ∷ []) (0 ∷ []) (is_ok result) }
-    ensures cause { HasStreamCause (D.fault_count disk.old) (D.fault_count disk.new) (D.told disk.old) result }
+    requires ready { (d : LotView) → IsReady (alone (D.told disk.old) purse.old
+        (lot_at lots.old.items at d)) }
+    ensures empty { (d : LotView) → lot_at lots.new.items at d ≡ empty
+        (lot_at lots.old.items at d).stored.room (lot_at lots.old.items at d).feed.reach }
+    ensures preserves { (d : LotView) → Preserves (alone (D.told disk.old) purse.old
+        (lot_at lots.old.items at d))
+        (alone (D.told disk.new) purse.new (lot_at lots.new.items at d)) (0 ∷ []) (0 ∷ [])
+        (is_ok result) }
+    ensures cause { HasStreamCause (D.fault_count disk.old) (D.fault_count disk.new)
+        (D.told disk.old) result }
     ensures count { length lots.new.items ≡ length lots.old.items }
-    ensures same { (i : ℕ) (d : LotView) → i ≢ at → lot_at lots.new.items i d ≡ lot_at lots.old.items i d }
+    ensures same { (i : ℕ) (d : LotView) → i ≢ at →
+        lot_at lots.new.items i d ≡ lot_at lots.old.items i d }
 {
     lots[at].drop_lot(purse, disk)
 }
@@ -117,19 +136,27 @@ pub(crate) fn pipe_at<D: Spill>(
     requires there { from < vec_len lots.old }
     requires other { to < vec_len lots.old }
     requires apart { from ≢ to }
-    requires may { (d : LotView) → MayPass (lot_at lots.old.items from d) (lot_at lots.old.items to d) io.old.purse.now }
+    requires may { (d : LotView) → MayPass (lot_at lots.old.items from d)
+        (lot_at lots.old.items to d) io.old.purse.now }
     requires holds { (d : LotView) → IfTold (D.told io.old.disk.now)
-        (HoldsWhatFits p.now.takes p.now.work (lot_at lots.old.items from d) (lot_at lots.old.items to d) io.old.purse.now.pages) }
-    ensures rows { (d : LotView) → OnOk result (BothTold (D.told io.old.disk.now) (D.told io.new.disk.now)
-        (GivesRows p.now.takes p.now.work (lot_at lots.old.items from d) (lot_at lots.old.items to d) (lot_at lots.new.items to d))) }
+        (HoldsWhatFits p.now.takes p.now.work (lot_at lots.old.items from d)
+        (lot_at lots.old.items to d) io.old.purse.now.pages) }
+    ensures rows { (d : LotView) → OnOk result (BothTold (D.told io.old.disk.now)
+        (D.told io.new.disk.now)
+        (GivesRows p.now.takes p.now.work (lot_at lots.old.items from d)
+        (lot_at lots.old.items to d) (lot_at lots.new.items to d))) }
     ensures passes { (d : LotView) → Passes (D.told io.old.disk.now) (D.told io.new.disk.now)
-        (lot_at lots.old.items from d) (lot_at lots.new.items from d) (lot_at lots.old.items to d) (lot_at lots.new.items to d) io.old.purse.now io.new.purse.now }
-    ensures cause { (d : LotView) → HasPassCause (D.fault_count io.old.disk.now) (D.fault_count io.new.disk.now)
+        (lot_at lots.old.items from d) (lot_at lots.new.items from d) (lot_at lots.old.items to d)
+        (lot_at lots.new.items to d) io.old.purse.now io.new.purse.now }
+    ensures cause { (d : LotView) → HasPassCause (D.fault_count io.old.disk.now)
+        (D.fault_count io.new.disk.now)
         (D.told io.old.disk.now) (lot_at lots.new.items from d) result }
-    ensures rests { (d : LotView) → RestsAfter (lot_at lots.new.items from d) (lot_at lots.new.items to d) result }
+    ensures rests { (d : LotView) → RestsAfter (lot_at lots.new.items from d)
+        (lot_at lots.new.items to d) result }
     ensures lent { HasSameParts io.old io.new }
     ensures count { length lots.new.items ≡ length lots.old.items }
-    ensures same { (i : ℕ) (d : LotView) → i ≢ from → i ≢ to → lot_at lots.new.items i d ≡ lot_at lots.old.items i d }
+    ensures same { (i : ℕ) (d : LotView) → i ≢ from → i ≢ to →
+        lot_at lots.new.items i d ≡ lot_at lots.old.items i d }
 {
     pipe_between(p, lots, from, to, s, io)
 }
@@ -146,19 +173,27 @@ fn pipe_between<D: Spill>(
     requires there { from < length lots.old }
     requires other { to < length lots.old }
     requires apart { from ≢ to }
-    requires may { (d : LotView) → MayPass (lot_at lots.old from d) (lot_at lots.old to d) io.old.purse.now }
+    requires may { (d : LotView) → MayPass (lot_at lots.old from d)
+        (lot_at lots.old to d) io.old.purse.now }
     requires holds { (d : LotView) → IfTold (D.told io.old.disk.now)
-        (HoldsWhatFits p.now.takes p.now.work (lot_at lots.old from d) (lot_at lots.old to d) io.old.purse.now.pages) }
-    ensures rows { (d : LotView) → OnOk result (BothTold (D.told io.old.disk.now) (D.told io.new.disk.now)
-        (GivesRows p.now.takes p.now.work (lot_at lots.old from d) (lot_at lots.old to d) (lot_at lots.new to d))) }
+        (HoldsWhatFits p.now.takes p.now.work (lot_at lots.old from d)
+        (lot_at lots.old to d) io.old.purse.now.pages) }
+    ensures rows { (d : LotView) → OnOk result (BothTold (D.told io.old.disk.now)
+        (D.told io.new.disk.now)
+        (GivesRows p.now.takes p.now.work (lot_at lots.old from d) (lot_at lots.old to d)
+        (lot_at lots.new to d))) }
     ensures passes { (d : LotView) → Passes (D.told io.old.disk.now) (D.told io.new.disk.now)
-        (lot_at lots.old from d) (lot_at lots.new from d) (lot_at lots.old to d) (lot_at lots.new to d) io.old.purse.now io.new.purse.now }
-    ensures cause { (d : LotView) → HasPassCause (D.fault_count io.old.disk.now) (D.fault_count io.new.disk.now)
+        (lot_at lots.old from d) (lot_at lots.new from d) (lot_at lots.old to d)
+        (lot_at lots.new to d) io.old.purse.now io.new.purse.now }
+    ensures cause { (d : LotView) → HasPassCause (D.fault_count io.old.disk.now)
+        (D.fault_count io.new.disk.now)
         (D.told io.old.disk.now) (lot_at lots.new from d) result }
-    ensures rests { (d : LotView) → RestsAfter (lot_at lots.new from d) (lot_at lots.new to d) result }
+    ensures rests { (d : LotView) → RestsAfter (lot_at lots.new from d)
+        (lot_at lots.new to d) result }
     ensures lent { HasSameParts io.old io.new }
     ensures count { length lots.new ≡ length lots.old }
-    ensures same { (i : ℕ) (d : LotView) → i ≢ from → i ≢ to → lot_at lots.new i d ≡ lot_at lots.old i d }
+    ensures same { (i : ℕ) (d : LotView) → i ≢ from → i ≢ to →
+        lot_at lots.new i d ≡ lot_at lots.old i d }
 {
     if from < to {
         let (left, right) = lots.split_at_mut(to);

@@ -24,9 +24,9 @@ use span_bytes::span::Span;
 use spool::io::Io;
 use std::marker::Model;
 
-/// A worker's purse, its disk and its lots, by their places. They always stand together: all segments have one
-/// size, no block of the disk is one of two lots, and the purse has room for every segment. It may not be let go:
-/// `into_parts` gives all back.
+/// A worker's purse, its disk and its lots, by their places. They always stand together: all
+/// segments have one size, no block of the disk is one of two lots, and the purse has room for
+/// every segment. It may not be let go: `into_parts` gives all back.
 pub struct WorkerStorage<D: Spill> {
     size: u32,
     purse: Purse,
@@ -65,7 +65,8 @@ impl<D: Spill> WorkerStorage<D> {
         }
     }
 
-    /// What is true of every storage: all of it stands together. It does nothing, and is called for the prover alone.
+    /// What is true of every storage: all of it stands together. It does nothing, and is called
+    /// for the prover alone.
     pub fn limits(&self)
         ensures { IsReadyAt self.now.size (view_of D.told self.now) }
     {
@@ -89,52 +90,66 @@ impl<D: Spill> WorkerStorage<D> {
 
     /// Adds a record behind those of a lot, as `Lot::append` does.
     ///
-    /// `Spill` only where the disk's count of faults rose in this call; what the lot stands for is then open.
+    /// `Spill` only where the disk's count of faults rose in this call; what the lot stands for is
+    /// then open.
     pub fn append<X: Span>(&mut self, at: usize, row: &X) -> Result<(), StreamFault>
         requires there { at < length self.old.lots }
         requires len { length (X.seen row.now) < 2 ^ 32 }
         requires supply { (d : LotView) → IsSupplied self.old.purse (lot_at self.old.lots at d) }
-        ensures rows { (d : LotView) → IsShort self.old.size (lot_at self.old.lots at d).feed.reach (length (X.seen row.now)) →
+        ensures rows { (d : LotView) → IsShort self.old.size (lot_at self.old.lots at d).feed.reach
+            (length (X.seen row.now)) →
             OnOk result (BothTold (D.told self.old.disk) (D.told self.new.disk)
             (Gains (lot_at self.old.lots at d) (lot_at self.new.lots at d) (X.seen row.now ∷ []))) }
         ensures keeps { KeepsStorage D.told self.old self.new (at ∷ []) (at ∷ []) true }
-        ensures cause { HasWriteCause (D.fault_count self.old.disk) (D.fault_count self.new.disk) result }
-        ensures supply { (d : LotView) → OnOk result (IsSupplied self.new.purse (lot_at self.new.lots at d)) }
+        ensures cause { HasWriteCause (D.fault_count self.old.disk)
+            (D.fault_count self.new.disk) result }
+        ensures supply { (d : LotView) → OnOk result (IsSupplied self.new.purse
+            (lot_at self.new.lots at d)) }
     {
         append_at(&mut self.lots, at, row, &mut self.purse, &mut self.disk)
     }
 
     /// Adds a page's used bytes behind those of a lot, as `Lot::append_page` does.
     ///
-    /// `Spill` only where the disk's count of faults rose in this call; what the lot stands for is then open.
+    /// `Spill` only where the disk's count of faults rose in this call; what the lot stands for is
+    /// then open.
     pub fn append_page(&mut self, at: usize, page: Segment) -> Result<(), StreamFault>
         requires there { at < length self.old.lots }
         requires sized { length page.bytes ≡ self.old.size }
         requires room { length self.old.purse.pages + held_count self.old.lots < self.old.purse.room }
-        ensures added { (d : LotView) → OnOk result (BothTold (D.told self.old.disk) (D.told self.new.disk)
+        ensures added { (d : LotView) → OnOk result (BothTold (D.told self.old.disk)
+            (D.told self.new.disk)
             (AppendsPage page (lot_at self.old.lots at d) (lot_at self.new.lots at d))) }
-        ensures keeps { KeepsStorage D.told (record self.old { purse = with_segment page self.old.purse }) self.new (at ∷ []) (at ∷ []) true }
-        ensures cause { HasWriteCause (D.fault_count self.old.disk) (D.fault_count self.new.disk) result }
+        ensures keeps { KeepsStorage D.told
+            (record self.old { purse = with_segment page self.old.purse }) self.new (at ∷ [])
+            (at ∷ []) true }
+        ensures cause { HasWriteCause (D.fault_count self.old.disk)
+            (D.fault_count self.new.disk) result }
     {
         append_page_at(&mut self.lots, at, page, &mut self.purse, &mut self.disk)
     }
 
-    /// Brings a lot to rest, as `Lot::rest` does: it then holds at most as many segments as it keeps pages.
+    /// Brings a lot to rest, as `Lot::rest` does: it then holds at most as many segments as it
+    /// keeps pages.
     ///
-    /// `Spill` only where the disk's count of faults rose in this call; what the lot stands for is then open.
+    /// `Spill` only where the disk's count of faults rose in this call; what the lot stands for is
+    /// then open.
     pub fn rest(&mut self, at: usize) -> Result<(), StreamFault>
         requires { at < length self.old.lots }
-        ensures rows { (d : LotView) → OnOk result (BothTold (D.told self.old.disk) (D.told self.new.disk)
+        ensures rows { (d : LotView) → OnOk result (BothTold (D.told self.old.disk)
+            (D.told self.new.disk)
             (Gains (lot_at self.old.lots at d) (lot_at self.new.lots at d) [])) }
         ensures keeps { KeepsStorage D.told self.old self.new (at ∷ []) (at ∷ []) true }
-        ensures cause { HasWriteCause (D.fault_count self.old.disk) (D.fault_count self.new.disk) result }
-        ensures rests { (d : LotView) → length (held (lot_at self.new.lots at d)) ≤ (lot_at self.new.lots at d).stored.room }
+        ensures cause { HasWriteCause (D.fault_count self.old.disk)
+            (D.fault_count self.new.disk) result }
+        ensures rests { (d : LotView) → length (held (lot_at self.new.lots at d)) ≤
+            (lot_at self.new.lots at d).stored.room }
     {
         rest_at(&mut self.lots, at, &mut self.purse, &mut self.disk)
     }
 
-    /// Empties a lot, as `Lot::drop_lot` does: its segments go to the purse, whatever the answer, and where that is
-    /// Ok, no block that was its own is live.
+    /// Empties a lot, as `Lot::drop_lot` does: its segments go to the purse, whatever the answer,
+    /// and where that is Ok, no block that was its own is live.
     pub fn drop_lot(&mut self, at: usize) -> Result<(), StreamFault>
         requires there { at < length self.old.lots }
         requires supply { 0 < length self.old.purse.pages }
@@ -147,13 +162,15 @@ impl<D: Spill> WorkerStorage<D> {
         drop_at(&mut self.lots, at, &mut self.purse, &mut self.disk)
     }
 
-    /// Empties all lots, the first first. Their segments go to the purse, whatever the answer, which is the first
-    /// fault: after it the lots behind are emptied all the same. Where it is Ok, no block that was a lot's is live.
+    /// Empties all lots, the first first. Their segments go to the purse, whatever the answer,
+    /// which is the first fault: after it the lots behind are emptied all the same. Where it is
+    /// Ok, no block that was a lot's is live.
     pub fn drop_all(&mut self) -> Result<(), StreamFault>
         requires { 0 < length self.old.purse.pages }
         ensures empty { (i : ℕ) (d : LotView) → i < length self.old.lots → lot_at self.new.lots i d
             ≡ empty (lot_at self.old.lots i d).stored.room (lot_at self.old.lots i d).feed.reach }
-        ensures freed { OnOk result (BothTold (D.told self.old.disk) (D.told self.new.disk) (FreesAll self.old.lots)) }
+        ensures freed { OnOk result (BothTold (D.told self.old.disk) (D.told self.new.disk)
+            (FreesAll self.old.lots)) }
         ensures keeps { KeepsStorage D.told self.old self.new
             (all_places (length self.old.lots)) (all_places (length self.old.lots)) (is_ok result) }
         ensures cause { HasStreamCause (D.fault_count self.old.disk) (D.fault_count self.new.disk)
@@ -167,21 +184,25 @@ impl<D: Spill> WorkerStorage<D> {
         answer
     }
 
-    /// Puts the lots at two places each in the place of the other. Both keep as many pages and take records over as
-    /// many.
+    /// Puts the lots at two places each in the place of the other. Both keep as many pages and
+    /// take records over as many.
     pub fn swap(&mut self, one: usize, other: usize)
         requires one { one < length self.old.lots }
         requires other { other < length self.old.lots }
-        requires rooms { (d : LotView) → (lot_at self.old.lots one d).stored.room ≡ (lot_at self.old.lots other d).stored.room }
-        requires reach { (d : LotView) → (lot_at self.old.lots one d).feed.reach ≡ (lot_at self.old.lots other d).feed.reach }
+        requires rooms { (d : LotView) → (lot_at self.old.lots one d).stored.room ≡
+            (lot_at self.old.lots other d).stored.room }
+        requires reach { (d : LotView) → (lot_at self.old.lots one d).feed.reach ≡
+            (lot_at self.old.lots other d).feed.reach }
         ensures swapped { self.new ≡ record self.old { lots = swap self.old.lots one other } }
-        ensures keeps { KeepsStorage D.told self.old self.new (one ∷ other ∷ []) (one ∷ other ∷ []) true }
+        ensures keeps { KeepsStorage D.told self.old self.new (one ∷ other ∷ [])
+            (one ∷ other ∷ []) true }
     {
         swap_at(&mut self.lots, one, other);
     }
 
-    /// Puts a lot from outside in the place of one, which it gives. The lot from outside stands together with those
-    /// here, so that none of its blocks is one of theirs; the lot that goes then does.
+    /// Puts a lot from outside in the place of one, which it gives. The lot from outside stands
+    /// together with those here, so that none of its blocks is one of theirs; the lot that goes
+    /// then does.
     pub fn exchange(&mut self, at: usize, lot: &mut Lot)
         requires there { at < length self.old.lots }
         requires stands { IsReadyAt self.old.size (with_lot lot.old (view_of D.told self.old)) }
@@ -194,8 +215,8 @@ impl<D: Spill> WorkerStorage<D> {
 
     /// Adds the rows that are given of a lot's rows behind those of another lot, as `pipe` does.
     ///
-    /// `Spill` comes only where the disk's count of faults rose in this call, `Damaged` only over a disk that doesn't
-    /// tell, with the block that was read last.
+    /// `Spill` comes only where the disk's count of faults rose in this call, `Damaged` only over
+    /// a disk that doesn't tell, with the block that was read last.
     pub fn pipe(
         &mut self,
         p: &RowPipe,
@@ -205,15 +226,21 @@ impl<D: Spill> WorkerStorage<D> {
     ) -> Result<(), StreamFault>
         requires there { (from < length self.old.lots) × (to < length self.old.lots) × (from ≢ to) }
         requires may { (d : LotView) → MayRead self.old.purse (lot_at self.old.lots from d) }
-        requires within { (d : LotView) → GivesWithin p.now.takes p.now.work self.old.size (lot_at self.old.lots to d).feed.reach }
-        requires holds { (d : LotView) → IfTold (D.told self.old.disk) (HoldsSome p.now.takes (lot_at self.old.lots from d)) }
-        ensures rows { (d : LotView) → OnOk result (BothTold (D.told self.old.disk) (D.told self.new.disk)
+        requires within { (d : LotView) → GivesWithin p.now.takes p.now.work self.old.size
+            (lot_at self.old.lots to d).feed.reach }
+        requires holds { (d : LotView) → IfTold (D.told self.old.disk) (HoldsSome p.now.takes
+            (lot_at self.old.lots from d)) }
+        ensures rows { (d : LotView) → OnOk result (BothTold (D.told self.old.disk)
+            (D.told self.new.disk)
             (Gains (lot_at self.old.lots to d) (lot_at self.new.lots to d)
-            (given p.now.takes p.now.work (rows_of (D.told self.old.disk) (lot_at self.old.lots from d))))) }
+            (given p.now.takes p.now.work (rows_of (D.told self.old.disk)
+            (lot_at self.old.lots from d))))) }
         ensures keeps { KeepsStorage D.told self.old self.new (from ∷ to ∷ []) (to ∷ []) true }
-        ensures cause { (d : LotView) → HasPassCause (D.fault_count self.old.disk) (D.fault_count self.new.disk)
+        ensures cause { (d : LotView) → HasPassCause (D.fault_count self.old.disk)
+            (D.fault_count self.new.disk)
             (D.told self.old.disk) (lot_at self.new.lots from d) result }
-        ensures rests { (d : LotView) → RestsAfter (lot_at self.new.lots from d) (lot_at self.new.lots to d) result }
+        ensures rests { (d : LotView) → RestsAfter (lot_at self.new.lots from d)
+            (lot_at self.new.lots to d) result }
     {
         let mut io = Io {
             purse: &mut self.purse,
