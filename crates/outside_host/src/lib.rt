@@ -11,6 +11,4 @@ pub mod file_spill;
 pub mod print_sink;
 mod slots;
 mod spill_file;
-#[cfg(test)]
-mod tests;
 mod write_some;

@@ -8,5 +8,3 @@
 mod frame;
 pub mod laws;
 pub mod rows;
-#[cfg(test)]
-mod tests;

@@ -8,9 +8,7 @@
 
 pub mod demand;
 pub mod fullness;
-mod hash;
+pub mod hash;
 mod need;
 mod shares;
 mod states;
-#[cfg(test)]
-mod tests;

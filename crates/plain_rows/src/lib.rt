@@ -11,6 +11,8 @@ mod full;
 #[cfg(test)]
 mod ops;
 #[cfg(test)]
+mod parts;
+#[cfg(test)]
 mod plans;
 #[cfg(test)]
 mod tests;

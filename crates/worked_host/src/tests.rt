@@ -1,13 +1,13 @@
 ghost use Rattle.std.specs.Prelude.{◌≡◌};
 
-use crate::file_shelf::FileShelf;
-use crate::file_spill::FileSpill;
-use crate::print_sink::{StderrSink, StdoutSink};
 use flow_outside::read_file::{FileFault, read_file};
 use flow_outside::shelf::Shelf;
 use flow_outside::sink::Sink;
 use flow_outside::spill::Spill;
 use flow_outside::write_all::write_all;
+use outside_host::file_shelf::FileShelf;
+use outside_host::file_spill::FileSpill;
+use outside_host::print_sink::{StderrSink, StdoutSink};
 use std::fs;
 use std::fs::Files;
 use std::os::unix::fs::FileExt;

@@ -1,11 +1,11 @@
 ghost use Rattle.std.specs.Prelude.{◌≡◌, slice_get, IfOk, Some};
 
-use crate::rows::PackedRows;
 use flow_types::field_type::FieldType;
 use flow_types::row::{Row, compare_rows};
 use flow_types::schema::Schema;
 use flow_types::text::Text;
 use flow_types::value::Value;
+use packed_rows::rows::PackedRows;
 use std::alloc::Global;
 use std::cmp::Ordering;
 use std::test::Fail;

@@ -1,6 +1,6 @@
-use crate::hash::part_of;
 use flow_types::text::Text;
 use flow_types::value::Value;
+use plain_full::hash::part_of;
 
 #[test]
 fn keys_have_their_parts(rt: HostRuntime) {
