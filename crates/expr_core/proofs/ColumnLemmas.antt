@@ -28,7 +28,8 @@ use Rattle.expr_core.specs.declared.seen.Seen.TheVariants as seen
 use Rattle.expr_core.specs.declared.seen.TextPlace.{TextPlace}
 use Rattle.expr_core.specs.Places.{value_in, text_bytes, origin_bytes, is_inside}
 use Rattle.expr_core.specs.Needs.{is_typed, are_typed, width_of_type, widest_of}
-use Rattle.expr_core.proofs.TextLemmas.{text_len, take_reaches}
+use Rattle.span_bytes.proofs.CompareLemmas.{take_reaches}
+use Rattle.expr_core.proofs.TextLemmas.{text_len}
 
 -- a text's length and its bytes were written behind one another
 pub text_written : (bytes room new post out part : List ℕ) (s : Seen) (text : TextPlace) (end n : ℕ) → s ≡ seen.Str text

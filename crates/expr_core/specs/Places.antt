@@ -1,4 +1,4 @@
-use Rattle.std.specs.Prelude.{ℕ, Bool, true, not, ◌==◌, nat_le, List, take, drop, length, slice_index}
+use Rattle.std.specs.Prelude.{ℕ, Bool, true, false, not, ◌==◌, nat_le, List, take, drop, length, slice_index}
 use Rattle.std.specs.Int.{from_be_bytes, cast_signed, w64}
 use Rattle.flow_types.specs.declared.value.Value.{Value}
 use Rattle.flow_types.specs.declared.value.Value.TheVariants as value
@@ -23,6 +23,12 @@ origin_bytes record_bytes room origin.Room = room
 -- the bytes of a text
 abbrev pub text_bytes : List ℕ → List ℕ → TextPlace → List ℕ
 text_bytes record_bytes room text = take text.len (origin_bytes record_bytes room text.origin)
+
+-- a text lies beside the record: in a literal or in the room, which are in one piece each
+abbrev pub lies_apart : Origin → Bool
+lies_apart (origin.Record start) = false
+lies_apart (origin.Literal bytes) = true
+lies_apart origin.Room = true
 
 -- a text doesn't pass the end of where it lies
 abbrev pub is_text_inside : List ℕ → List ℕ → TextPlace → Bool

@@ -11,8 +11,9 @@ ghost use Rattle.expr_core.specs.Needs.{is_typed, are_typed, widest_of, column_r
 use crate::eval::eval;
 use crate::seen::Seen;
 use crate::source::Source;
-use crate::text::{bring, write_bytes};
+use crate::text::bring;
 use flow_types::expr::Expr;
+use record_codec::encode::write_bytes;
 
 /// Writes the record of the columns' values to the front of the room, and gives its length.
 pub(crate) fn write_columns<R: Source>(columns: &[Expr], row: &R, room: &mut [u8]) -> usize

@@ -1,12 +1,14 @@
-ghost use Rattle.std.specs.Prelude.{◌≡◌, ℕ, List, ◌+◌, ◌^◌, ◌≤◌, ◌<◌, ◌++◌, length, take, drop, IsTrue};
+ghost use Rattle.std.specs.Prelude.{◌≡◌, ◌+◌, ◌^◌, ◌≤◌, ◌<◌, length, take, drop, IsTrue};
 ghost use Rattle.std.specs.Cmp.Lexicographic.{slice_cmp};
 ghost use Rattle.std.specs.Ordering.{nat_cmp};
 ghost use Rattle.flow_types.specs.Expressions.{cut, goes_on, cut_place};
-ghost use Rattle.flow_types.specs.Limits.{text_limit};
-ghost use Rattle.expr_core.specs.Places.{text_bytes, is_text_inside, held_by};
+ghost use Rattle.expr_core.specs.Places.{text_bytes, is_text_inside, held_by, lies_apart};
 
 use crate::seen::{Origin, TextPlace};
 use crate::source::Source;
+use record_codec::encode::write_bytes;
+use span_bytes::compare::compare_bytes;
+use span_bytes::span::Span;
 use std::cmp::Ordering;
 
 /// The bytes of a text from a place on, as far as they lie in one piece.
@@ -28,6 +30,42 @@ fn piece<'a, R: Source>(text: &TextPlace<'a>, from: usize, row: &'a R, room: &'a
     }
 }
 
+/// The bytes of a text, where they lie.
+#[derive(Drop)]
+struct TextBytes<'a, R: Source> {
+    text: TextPlace<'a>,
+    row: &'a R,
+    room: &'a [u8],
+    ghost inside: { IsTrue (is_text_inside (R.seen row.now) room.now text) },
+}
+
+impl<R: Source> Span for TextBytes<'_, R> {
+    ghost seen = { λ t. text_bytes (R.seen t.row.now) t.room.now t.text };
+
+    ghost is_one_piece = { λ t. lies_apart t.text.origin };
+
+    fn len(&self) -> usize {
+        usize::from(self.text.len)
+    }
+
+    fn at(&self, i: usize) -> u8 {
+        piece(&self.text, i, self.row, self.room)[0]
+    }
+
+    fn piece(&self, from: usize) -> &[u8] {
+        piece(&self.text, from, self.row, self.room)
+    }
+
+    fn whole(&self) -> Option<&[u8]> {
+        let len = usize::from(self.text.len);
+        match self.text.origin {
+            Origin::Record(_) => None,
+            Origin::Literal(bytes) => Some(&bytes[..len]),
+            Origin::Room => Some(&self.room[..len]),
+        }
+    }
+}
+
 /// The order of two texts by their bytes. They are compared in place, piece by piece, up to the first
 /// byte that differs.
 pub(crate) fn compare_texts<'a, R: Source>(
@@ -42,19 +80,17 @@ pub(crate) fn compare_texts<'a, R: Source>(
     ensures { result
         ≡ slice_cmp nat_cmp (text_bytes (R.seen row.now) room.now a.now) (text_bytes (R.seen row.now) rest.now b.now) }
 {
-    let a_len = usize::from(a.len);
-    let b_len = usize::from(b.len);
-    let mut at = 0;
-    while at < a_len && at < b_len {
-        let left = piece(a, at, row, room);
-        let right = piece(b, at, row, rest);
-        let count = left.len().min(right.len());
-        match left[..count].cmp(&right[..count]) {
-            Ordering::Equal => at += count,
-            other => return other,
-        }
-    }
-    a_len.cmp(&b_len)
+    let left = TextBytes {
+        text: *a,
+        row,
+        room,
+    };
+    let right = TextBytes {
+        text: *b,
+        row,
+        room: rest,
+    };
+    compare_bytes(&left, &right)
 }
 
 /// The longest front of a text of at most so many bytes that ends between code points. No byte is
@@ -132,15 +168,4 @@ fn copy_record<R: Source>(start: usize, len: usize, row: &R, room: &mut [u8])
         let count = piece.len().min(len - at);
         at = write_bytes(room, at, &piece[..count]);
     }
-}
-
-/// Writes bytes from a place on, and gives the place behind them.
-pub(crate) fn write_bytes(out: &mut [u8], start: usize, bytes: &[u8]) -> usize
-    requires { start + length bytes.now ≤ length out.old }
-    ensures end { result ≡ start + length bytes.now }
-    ensures bytes { out.new ≡ take start out.old ++ bytes.now ++ drop result out.old }
-{
-    let end = start + bytes.len();
-    out[start..end].copy_from_slice(bytes);
-    end
 }

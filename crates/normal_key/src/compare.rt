@@ -1,5 +1,5 @@
 //! Fields compared where they lie in two records of one schema.
-ghost use Rattle.std.specs.Prelude.{◌≡◌, ◌+◌, ◌<◌, ◌≤◌, length, map, take, drop};
+ghost use Rattle.std.specs.Prelude.{◌≡◌, ◌+◌, ◌≤◌, length, map, take, drop};
 ghost use Rattle.std.specs.Cmp.Lexicographic.{slice_cmp};
 ghost use Rattle.std.specs.Ordering.{nat_cmp};
 ghost use Rattle.flow_types.specs.Values.{value_cmp};
@@ -12,6 +12,8 @@ use flow_types::order_item::OrderItem;
 use flow_types::schema::Schema;
 use record_codec::number::long_at;
 use record_codec::place::{Place, field_at};
+use span_bytes::compare::compare_bytes;
+use span_bytes::part::Part;
 use span_bytes::span::Span;
 use std::cmp::Ordering;
 
@@ -19,7 +21,8 @@ use std::cmp::Ordering;
 pub(crate) fn compare_key<X: Span>(a: &X, b: &X, schema: &Schema, key: &[u16]) -> Ordering
     requires a_fits { IsRecord schema.now (X.seen a.now) }
     requires b_fits { IsRecord schema.now (X.seen b.now) }
-    ensures { result ≡ items_cmp (map ascending key.now) (tuple_of schema.now (X.seen a.now)) (tuple_of schema.now (X.seen b.now)) }
+    ensures { result ≡ items_cmp (map ascending key.now) (tuple_of schema.now (X.seen a.now))
+        (tuple_of schema.now (X.seen b.now)) }
 {
     for number in key {
         match compare_field(a, b, schema, usize::from(*number)) {
@@ -34,7 +37,8 @@ pub(crate) fn compare_key<X: Span>(a: &X, b: &X, schema: &Schema, key: &[u16]) -
 pub(crate) fn compare_items<X: Span>(a: &X, b: &X, schema: &Schema, items: &[OrderItem]) -> Ordering
     requires a_fits { IsRecord schema.now (X.seen a.now) }
     requires b_fits { IsRecord schema.now (X.seen b.now) }
-    ensures { result ≡ items_cmp items.now (tuple_of schema.now (X.seen a.now)) (tuple_of schema.now (X.seen b.now)) }
+    ensures { result ≡ items_cmp items.now (tuple_of schema.now (X.seen a.now))
+        (tuple_of schema.now (X.seen b.now)) }
 {
     for item in items {
         match compare_item(a, b, schema, *item) {
@@ -64,7 +68,8 @@ pub(crate) fn compare_whole<X: Span>(a: &X, b: &X, schema: &Schema) -> Ordering
 fn compare_item<X: Span>(a: &X, b: &X, schema: &Schema, item: OrderItem) -> Ordering
     requires a_fits { IsRecord schema.now (X.seen a.now) }
     requires b_fits { IsRecord schema.now (X.seen b.now) }
-    ensures { result ≡ item_cmp item (tuple_of schema.now (X.seen a.now)) (tuple_of schema.now (X.seen b.now)) }
+    ensures { result ≡ item_cmp item (tuple_of schema.now (X.seen a.now))
+        (tuple_of schema.now (X.seen b.now)) }
 {
     let number = usize::from(item.field);
     if item.down {
@@ -77,7 +82,8 @@ fn compare_item<X: Span>(a: &X, b: &X, schema: &Schema, item: OrderItem) -> Orde
 fn compare_field<X: Span>(a: &X, b: &X, schema: &Schema, number: usize) -> Ordering
     requires a_fits { IsRecord schema.now (X.seen a.now) }
     requires b_fits { IsRecord schema.now (X.seen b.now) }
-    ensures { result ≡ value_cmp (field number (tuple_of schema.now (X.seen a.now))) (field number (tuple_of schema.now (X.seen b.now))) }
+    ensures { result ≡ value_cmp (field number (tuple_of schema.now (X.seen a.now)))
+        (field number (tuple_of schema.now (X.seen b.now))) }
 {
     let fields = schema.fields();
     if number >= fields.len() {
@@ -92,37 +98,14 @@ fn compare_field<X: Span>(a: &X, b: &X, schema: &Schema, number: usize) -> Order
     }
 }
 
-/// By the bytes of two texts, a proper front first. They are compared piece by piece, up to the first byte
-/// that differs.
+/// By the bytes of two texts, a proper front first.
 fn compare_texts<X: Span>(a: &X, left: Place, b: &X, right: Place) -> Ordering
     requires a_inside { left.start + left.len ≤ length (X.seen a.now) }
     requires b_inside { right.start + right.len ≤ length (X.seen b.now) }
-    ensures { result ≡ slice_cmp nat_cmp (take left.len (drop left.start (X.seen a.now))) (take right.len (drop right.start (X.seen b.now))) }
+    ensures { result ≡ slice_cmp nat_cmp (take left.len (drop left.start (X.seen a.now)))
+        (take right.len (drop right.start (X.seen b.now))) }
 {
-    let mut at = 0;
-    while at < left.len && at < right.len {
-        let one = piece_of(a, left, at);
-        let other = piece_of(b, right, at);
-        let count = one.len().min(other.len());
-        match one[..count].cmp(&other[..count]) {
-            Ordering::Equal => at += count,
-            decided => return decided,
-        }
-    }
-    left.len.cmp(&right.len)
-}
-
-/// The bytes of a text from a place on, as far as they lie in one piece.
-fn piece_of<X: Span>(row: &X, place: Place, from: usize) -> &[u8]
-    requires inside { place.start + place.len ≤ length (X.seen row.now) }
-    requires from { from < place.len }
-    ensures some { 0 < length result.now }
-    ensures bound { from + length result.now ≤ place.len }
-    ensures bytes { result.now ≡ take (length result.now) (drop from (take place.len (drop place.start (X.seen row.now)))) }
-{
-    // So no place below overflows.
-    let end = row.len();
-    prove!(place.start <= end && from < end - place.start);
-    let piece = row.piece(place.start + from);
-    &piece[..piece.len().min(place.len - from)]
+    let one = Part::of(a, left.start, left.len);
+    let other = Part::of(b, right.start, right.len);
+    compare_bytes(&one, &other)
 }

@@ -99,8 +99,8 @@ fn write_value(out: &mut [u8], start: usize, value: &Value) -> usize
     }
 }
 
-/// Writes bytes from a place on, and gives the place behind them.
-fn write_bytes(out: &mut [u8], start: usize, bytes: &[u8]) -> usize
+/// Writes bytes over others from a place on, and gives the place behind them. Each byte is copied once.
+pub fn write_bytes(out: &mut [u8], start: usize, bytes: &[u8]) -> usize
     requires { start + length bytes.now ≤ length out.old }
     ensures end { result ≡ start + length bytes.now }
     ensures bytes { out.new ≡ take start out.old ++ bytes.now ++ drop result out.old }

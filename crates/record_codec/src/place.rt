@@ -28,7 +28,8 @@ pub fn field_at<X: Span>(row: &X, schema: &Schema, i: usize) -> Place
     requires exists { i < length schema.now }
     ensures place { result ≡ place_of schema.now (X.seen row.now) i }
     ensures inside { result.start + result.len ≤ length (X.seen row.now) }
-    ensures bytes { take result.len (drop result.start (X.seen row.now)) ≡ content (field i (tuple_of schema.now (X.seen row.now))) }
+    ensures bytes { take result.len (drop result.start (X.seen row.now))
+        ≡ content (field i (tuple_of schema.now (X.seen row.now))) }
 {
     match row.whole() {
         Some(bytes) => place_at(&bytes, schema, i),
@@ -42,7 +43,8 @@ fn place_at<X: Span>(row: &X, schema: &Schema, i: usize) -> Place
     requires exists { i < length schema.now }
     ensures place { result ≡ place_of schema.now (X.seen row.now) i }
     ensures inside { result.start + result.len ≤ length (X.seen row.now) }
-    ensures bytes { take result.len (drop result.start (X.seen row.now)) ≡ content (field i (tuple_of schema.now (X.seen row.now))) }
+    ensures bytes { take result.len (drop result.start (X.seen row.now))
+        ≡ content (field i (tuple_of schema.now (X.seen row.now))) }
 {
     let start = start_at(row, schema, i);
     first_place(row, schema.fields()[i], start)
@@ -101,7 +103,8 @@ fn first_place<X: Span>(row: &X, field: FieldType, start: usize) -> Place
     requires inside { start ≤ length (X.seen row.now) }
     ensures place { result ≡ place_in field start (X.seen row.now) }
     ensures inside { result.start + result.len ≤ length (X.seen row.now) }
-    ensures bytes { take result.len (drop result.start (X.seen row.now)) ≡ content (first_value field (drop start (X.seen row.now))) }
+    ensures bytes { take result.len (drop result.start (X.seen row.now))
+        ≡ content (first_value field (drop start (X.seen row.now))) }
 {
     match field {
         FieldType::Long => Place { start, len: 8 },

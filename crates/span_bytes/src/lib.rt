@@ -4,4 +4,6 @@
 //! Its one promise: what is read of pieces is read of the one list of bytes that they stand for.
 #![tactic(auto)]
 
+pub mod compare;
+pub mod part;
 pub mod span;

@@ -1,7 +1,7 @@
 use Rattle.std.proofs.Common.{ℕ, ◌+◌, ◌-◌, List, length, take, drop, sym, ◌∙◌, ap, arith}
 use Rattle.expr_core.specs.declared.seen.Origin.{Origin}
 use Rattle.expr_core.specs.Places.{origin_bytes}
-use Rattle.expr_core.proofs.TextLemmas.{piece_of, piece_at}
+use Rattle.span_bytes.proofs.CompareLemmas.{piece_of, piece_at}
 use Rattle.expr_core.proofs.text.piece.Goals as goal
 
 pub returns-in-Record-clause-bytes : goal.returns-in-Record-clause-bytes
