@@ -5,13 +5,13 @@ use Rattle.std.proofs.lemmas.List.{length-take-le, map-append, replicate-append-
 use Rattle.segment_core.specs.Segments.{SegmentView}
 use Rattle.segment_core.proofs.Weighing.{fits_first}
 use Rattle.flow_outside.specs.Blocks.{Blocks, BothTold}
-use Rattle.paged_view.specs.Pages.{body, used_bytes, used}
-use Rattle.spool.specs.Headers.{IsSameSegment, as_page}
-use Rattle.lot_store.specs.Spilling.{IsLonger, spilled}
+use Rattle.paged_view.specs.Pages.{body, used_bytes, used, IsSameSegment}
+use Rattle.spool.specs.Headers.{as_page}
+use Rattle.spool.specs.Spilling.{IsLonger, spilled}
 use Rattle.page_feed.specs.Reach.{sizes_of}
 use Rattle.lot_store.specs.Stores.{PagesView, stored_sizes}
 use Rattle.lot_store.specs.Keeping.{AddsFullPages, AddsPages, Keeps, KeepsSizes, MovesSegments, PutsPage}
-use Rattle.lot_store.proofs.SpillLemmas.{told_both, told_join, told_with}
+use Rattle.spool.proofs.SpillLemmas.{told_both, told_join, told_with}
 use Rattle.lot_store.proofs.LotLemmas.{keeps_same, nothing, on_ok_map}
 
 -- the same for a spilled page

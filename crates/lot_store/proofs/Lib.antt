@@ -1,6 +1,3 @@
-pub mod PageLemmas
-pub mod GrowthLemmas
-pub mod SpillLemmas
 pub mod LotLemmas
 pub mod StepLemmas
 pub mod FullLemmas

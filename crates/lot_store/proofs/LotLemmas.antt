@@ -6,13 +6,13 @@ use Rattle.segment_core.specs.Segments.{SegmentView, count_other_size, segment_s
 use Rattle.segment_core.proofs.Weighing.{fits_first, segment_sum-append, segment_sum-cons, segment_sum-push}
 use Rattle.flow_outside.specs.Blocks.{Blocks, BothTold}
 use Rattle.flow_outside.specs.Told.{IfTold}
-use Rattle.paged_view.specs.Pages.{used_bytes, all_used_bytes}
-use Rattle.spool.specs.Headers.{IsSameSegment, as_page}
+use Rattle.paged_view.specs.Pages.{used_bytes, all_used_bytes, IsSameSegment}
+use Rattle.spool.specs.Headers.{as_page}
 use Rattle.spool.specs.Runs.{joined}
-use Rattle.lot_store.specs.Spilling.{IsFreeOrOwn, IsLonger, IsUnchanged, IsSpilled, OwnsBlock, spilled}
+use Rattle.spool.specs.Spilling.{IsFreeOrOwn, IsLonger, IsUnchanged, IsSpilled, OwnsBlock, spilled}
 use Rattle.lot_store.specs.Stores.{PagesView, IsSound, held, text}
 use Rattle.lot_store.specs.Keeping.{Keeps, MovesSegments, AddsText}
-use Rattle.lot_store.proofs.SpillLemmas.{told_with}
+use Rattle.spool.proofs.SpillLemmas.{told_with}
 
 -- Nothing is true of whatever is told.
 pub nothing : (t : Option Blocks) → IfTold t (λ m. Unit {0})

@@ -1,5 +1,5 @@
 -- A lot that is read from its first page on.
-use Rattle.std.proofs.Common.{◌≡◌, ℕ, ◌+◌, ◌^◌, ◌<◌, ◌==◌, Bool, cond, not, All, List, ◌++◌, length, map, Result, Ok, Err, IfOk, Option, Some, None, refl, sym, ap, ◌∙◌, subst, arith, append_assoc}
+use Rattle.std.proofs.Common.{◌≡◌, ℕ, ◌+◌, ◌^◌, ◌<◌, ◌==◌, Bool, cond, not, All, List, ◌++◌, length, map, Result, Ok, Err, IfOk, IfSome, Option, Some, None, refl, sym, ap, ◌∙◌, subst, arith, append_assoc}
 use Rattle.segment_core.specs.Segments.{SegmentView, count_other_size, segment_sum}
 use Rattle.segment_core.proofs.Weighing.{segment_sum-append}
 use Rattle.flow_outside.specs.Blocks.{Blocks, BothTold}
@@ -12,15 +12,31 @@ use Rattle.spool.specs.Reading.{number_at}
 use Rattle.spool.specs.Runs.{HasBlock, Stands, joined, pages_at}
 use Rattle.spool.specs.declared.place.RunReader.{RunReader}
 use Rattle.spool.specs.declared.writer.RunWriter.{RunWriter}
-use Rattle.page_feed.specs.Feeds.{FeedView, HasBlockLeft, block_of, HasLeft, IsLeftReadable, kept_in, open_page_in, lent, pages_left}
+use Rattle.page_feed.specs.Feeds.{FeedView, HasBlockLeft, block_of, block_or, HasLeft, IsLeftReadable, kept_in, open_page_in, lent, pages_left}
 use Rattle.page_feed.specs.Reach.{IsWithinReach, behind, sizes_of}
 use Rattle.page_feed.proofs.ReachLemmas.{reach_first}
-use Rattle.lot_store.specs.Spilling.{IsFreeOrOwn, IsSpilled, OwnsBlock, spilled}
+use Rattle.spool.specs.Spilling.{IsFreeOrOwn, IsSpilled, OwnsBlock, spilled}
 use Rattle.lot_store.specs.Stores.{PagesView, held as held_stored, sizes as sizes_stored, text as text_stored}
 use Rattle.lot_store.specs.Lots.{HoldsRows, IsLeft, IsRewound, IsSound, LotView, StandsWith, held, pages_of}
 use Rattle.lot_store.specs.LotKeeping.{Keeps, MovesSegments}
 use Rattle.lot_store.specs.Reads.{BeginsAt, BeginsRun, HandsOver}
 use Rattle.lot_store.proofs.RestLemmas.{GaveBack, stored_same}
+
+-- What was read last of a run that is being read is its reader's block.
+pub reads_block : (run : Option RunReader) (other : ℕ) → IfSome run (λ reader. block_or run other ≡ reader.block)
+reads_block None other = tt
+reads_block (Some reader) other = refl
+
+pub same_block : (run : Option RunReader) (other : ℕ) → other ≡ block_of run → block_or run other ≡ block_of run
+same_block None other is = is
+same_block (Some reader) other is = refl
+
+-- A reader at the first page of a run has read none.
+pub none_read : (u : Option RunWriter) (v : Option RunReader) → BeginsRun u v → block_or v 0 ≡ 0
+none_read None None begins = refl
+none_read None (Some reader) begins = absurd begins
+none_read (Some writer) None begins = absurd begins
+none_read (Some writer) (Some reader) begins = begins.none
 
 -- A reader at the first page of a run has its pages left.
 pub left_begun : (m : Blocks) (u : Option RunWriter) (v : Option RunReader) → BeginsRun u v → pages_left m v ≡ spilled m u
@@ -183,7 +199,7 @@ rows_out (Ok more) None now a b shown same known = λ rows left. absurd left
 rows_out (Ok more) (Some m) now a b shown same known =
     λ rows left. subst (λ o. Advances rows more shown (IsLeft b o)) (sym same) (known rows left)
 
-pub pages_moved : (s : PagesView) (f g : FeedView) → kept_in g ≡ kept_in f → open_page_in g ≡ open_page_in f → pages_of (record { stored = s; feed = g }) ≡ pages_of (record { stored = s; feed = f })
+pub pages_moved : (s : PagesView) (f g : FeedView) → kept_in g ≡ kept_in f → open_page_in g ≡ open_page_in f → pages_of (record { stored = s; feed = g; read_last = 0 }) ≡ pages_of (record { stored = s; feed = f; read_last = 0 })
 pages_moved s f g kept open_page =
     stored_same s.room s.room (s.kept ++ kept_in g) (s.kept ++ kept_in f) s.run s.run (s.open_page ++ open_page_in g) (s.open_page ++ open_page_in f) refl (ap (λ ks. s.kept ++ ks) kept) refl (ap (λ ls. s.open_page ++ ls) open_page)
 

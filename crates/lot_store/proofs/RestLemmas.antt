@@ -5,12 +5,12 @@ use Rattle.segment_core.proofs.Weighing.{segment_sum-append, segment_sum-cons, s
 use Rattle.flow_outside.specs.Blocks.{Blocks, BothTold}
 use Rattle.page_feed.specs.Feeds.{FeedView, HasBlockLeft, held as held_fed, kept_in, open_page_in, lent, stopped}
 use Rattle.spool.specs.declared.writer.RunWriter.{RunWriter}
-use Rattle.lot_store.specs.Spilling.{IsSpilled}
+use Rattle.spool.specs.Spilling.{IsSpilled}
 use Rattle.lot_store.specs.Stores.{PagesView, StandsWith as StoredStands, IsSound as IsStoredSound, held as held_stored, text as text_stored}
 use Rattle.lot_store.specs.Keeping.{AddsPages, AddsFullPages as StoredAddsFull, AddsText as StoredAdds, Keeps as StoredKeeps, KeepsOthers as StoredKeepsOthers, MovesSegments as StoredMoves, PutsPage as PutsInto}
 use Rattle.lot_store.specs.Lots.{IsSound, LotView, StandsWith, held, pages_of}
 use Rattle.lot_store.specs.LotKeeping.{AddsFullPages, AddsText, Keeps, KeepsOthers, MovesSegments, PutsPage}
-use Rattle.lot_store.proofs.SpillLemmas.{told_with}
+use Rattle.spool.proofs.SpillLemmas.{told_with}
 use Rattle.lot_store.proofs.LotLemmas.{nothing, on_ok_map}
 
 -- pages as a record of their parts
@@ -155,9 +155,9 @@ lot_puts answer told now page a b s r k is rest puts =
     on_ok_map answer _ _ (told_with told now (λ m. Unit {0}) (PutsInto page s b.stored) (PutsPage page a b)
     (λ m n _ h. puts_at m n page a b s r k is rest h) (nothing told)) puts
 
--- the lot of these pages and this feed
-abbrev pub lot_of : PagesView → FeedView → LotView
-lot_of stored feed = record { stored = stored; feed = feed }
+-- the lot of these pages, this feed and this block
+abbrev pub lot_of : PagesView → FeedView → (read_last : ℕ) → LotView
+lot_of stored feed read_last = record { stored = stored; feed = feed; read_last = read_last }
 
 -- A page stands beside the purse.
 pub back_beside : (a : LotView) (page : SegmentView) (p q : List SegmentView) → GaveBack a p q → GaveBack a (page ∷ p) (page ∷ q)

@@ -19,12 +19,12 @@ use Rattle.page_feed.specs.Feeds.{FeedView, stopped}
 use Rattle.page_feed.specs.Reach.{IsWithinReach, sizes_of}
 use Rattle.page_feed.specs.ReachLaw.{IsUnderWay}
 use Rattle.page_feed.proofs.LawLemmas.{appending_stays}
-use Rattle.lot_store.specs.Spilling.{IsSpilled, spilled}
+use Rattle.spool.specs.Spilling.{IsSpilled, spilled}
 use Rattle.lot_store.specs.Stores.{ArePages, PagesView, StandsWith as StoredStands, held as held_stored, sizes as sizes_stored, stored_sizes, text as text_stored}
 use Rattle.lot_store.specs.Keeping.{AddsFullPages as StoredAddsFull, AddsText as StoredAdds, Keeps as StoredKeeps}
 use Rattle.lot_store.specs.Lots.{LotView, pages_of}
 use Rattle.lot_store.specs.LotKeeping.{AddsRow}
-use Rattle.lot_store.proofs.SpillLemmas.{told_both, told_with}
+use Rattle.spool.proofs.SpillLemmas.{told_both, told_with}
 use Rattle.lot_store.proofs.LotLemmas.{nothing}
 use Rattle.lot_store.proofs.RestLemmas.{GaveBack, pages_at_rest, stands_in}
 

@@ -6,17 +6,16 @@ use Rattle.flow_outside.specs.Blocks.{Blocks, BothTold}
 use Rattle.flow_outside.specs.Told.{IfTold}
 use Rattle.flow_outside.specs.Causes.{Rose}
 use Rattle.flow_outside.specs.declared.failure.StreamFault.{StreamFault}
-use Rattle.paged_view.specs.Pages.{used_bytes, all_used_bytes}
-use Rattle.spool.specs.Headers.{IsSameSegment}
+use Rattle.paged_view.specs.Pages.{used_bytes, all_used_bytes, IsSameSegment}
 use Rattle.spool.specs.Runs.{HasBlock, IsRun, IsWritten, joined}
 use Rattle.spool.specs.Changes.{ForeignBlocksUnchanged as LeavesBut}
 use Rattle.spool.specs.declared.run.Run.{Run}
 use Rattle.spool.specs.declared.writer.RunWriter.{RunWriter}
 use Rattle.spool.proofs.ChainLemmas.{chain_lives}
-use Rattle.lot_store.specs.Spilling.{HasWriteCause, IsSpilled, OwnsBlock, StandsAlone, spilled}
+use Rattle.spool.specs.Spilling.{HasWriteCause, IsSpilled, OwnsBlock, StandsAlone, spilled}
 use Rattle.lot_store.specs.Stores.{IsSound, PagesView, held, text}
 use Rattle.lot_store.specs.Keeping.{Keeps, KeepsOthers, MovesSegments, AddsText, Trades}
-use Rattle.lot_store.proofs.SpillLemmas.{told_join, told_with}
+use Rattle.spool.proofs.SpillLemmas.{told_join, told_with}
 use Rattle.lot_store.proofs.LotLemmas.{keeps_same_told, misfits_more, moved_fit, nothing, on_ok_map}
 use Rattle.paged_view.proofs.WritingLemmas.{text_piece, text_span}
 

@@ -15,7 +15,7 @@ use Rattle.spool.proofs.ChainLemmas.{SameChain, chain_lives, same_chain, stands_
 use Rattle.spool.proofs.PushLemmas.{writer_stays}
 use Rattle.page_feed.specs.Feeds.{FeedView, HasBlockLeft, HasLeft, IsLeftReadable, pages_left}
 use Rattle.page_feed.specs.Reach.{IsWithinReach, behind, sizes_of}
-use Rattle.lot_store.specs.Spilling.{IsSpilled, OwnsBlock, spilled}
+use Rattle.spool.specs.Spilling.{IsSpilled, OwnsBlock, spilled}
 use Rattle.lot_store.specs.Lots.{LotView, pages_of, text}
 use Rattle.lot_store.specs.LotKeeping.{KeepsRows}
 use Rattle.lot_store.specs.Storage.{StandsAt, blocks_at, lot_at, owners, run_blocks, times_in}

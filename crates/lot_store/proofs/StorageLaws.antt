@@ -15,7 +15,7 @@ use Rattle.lot_store.specs.Lots.{HoldsRows, LotView, held, pages_of, sizes}
 use Rattle.lot_store.specs.Stores.{PagesView, sizes as sizes_stored, text as text_stored}
 use Rattle.lot_store.specs.Laws.{WasKept}
 use Rattle.lot_store.specs.Storage.{AreBelow, Differ, IsFreeOrOwned, IsNoneOf, IsReady, IsReadyAt, HasBudget, Preserves, SparesBlocks, Stand, StandsAt, StaysStanding, StorageView, held_count, held_sum, lot_at, lots_at, owners, part_of, places_at, rooms, times_in}
-use Rattle.lot_store.proofs.SpillLemmas.{told_join}
+use Rattle.spool.proofs.SpillLemmas.{told_join}
 use Rattle.lot_store.proofs.Telling.{told_after, told_map, told_same, told_weaker}
 use Rattle.lot_store.proofs.StorageSums.{one_least, outside_sum, part_sum, split_sum}
 use Rattle.lot_store.proofs.StorageBlocks.{IsKeptLot, kept_lot, owned_lives, same_times, times_of}

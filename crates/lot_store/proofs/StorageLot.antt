@@ -12,10 +12,10 @@ use Rattle.paged_view.specs.Pages.{used_bytes}
 use Rattle.lot_store.specs.LotCalls.{AppendsPage, AppendsRow, KeepsContents, Reads, Writes}
 use Rattle.lot_store.specs.LotKeeping.{AddsFullPages, AddsRow, AddsText, Keeps, KeepsOthers, KeepsRows, MovesSegments, PutsPage}
 use Rattle.lot_store.specs.Lots.{IsSound, LotView, StandsWith, empty, held, pages_of}
-use Rattle.lot_store.specs.Spilling.{FreesBlocks, IsFreeOrOwn, OwnsBlock}
+use Rattle.spool.specs.Spilling.{FreesBlocks, IsFreeOrOwn, OwnsBlock}
 use Rattle.lot_store.specs.Stores.{PagesView, held as held_stored}
 use Rattle.lot_store.specs.Storage.{IsFreeOrOwned, IsNoneOf, IsReady, Preserves, Stand, StandsAt, StaysStanding, alone, held_sum, lot_at, owners, times_in}
-use Rattle.lot_store.proofs.SpillLemmas.{told_both}
+use Rattle.spool.proofs.SpillLemmas.{told_both}
 use Rattle.lot_store.proofs.RestLemmas.{stored_same}
 use Rattle.lot_store.proofs.Telling.{told_map, told_turn}
 use Rattle.lot_store.proofs.StorageBlocks.{counts_once, counts_own, owns_counted, times_of}
@@ -192,12 +192,14 @@ contents_kept (Ok value) t u a b bytes rows =
     told_map t u (λ m n. AddsText a b [] m n × KeepsRows a b m n) (KeepsContents a b) (λ m n k. record { bytes = k.0; rows = k.1 }) (told_both t u (AddsText a b []) (KeepsRows a b) bytes rows)
 
 -- A lot that holds nothing and has no run is the empty lot.
-pub lot_emptied : (b : LotView) (room reach r : ℕ) → held_stored b.stored ≡ [] → b.stored.run ≡ None → b.stored.room ≡ room → b.feed ≡ stopped r reach → r ≡ room → b ≡ empty room reach
-lot_emptied b room reach r none run own feed seat =
+pub lot_emptied : (b : LotView) (room reach r : ℕ) → held_stored b.stored ≡ [] → b.stored.run ≡ None → b.stored.room ≡ room → b.feed ≡ stopped r reach → r ≡ room → b.read_last ≡ 0 → b ≡ empty room reach
+lot_emptied b room reach r none run own feed seat forgot =
     let pages : b.stored ≡ record { room = room; kept = []; run = None; open_page = [] } =
     stored_same b.stored.room room b.stored.kept [] b.stored.run None b.stored.open_page [] own (front_none b.stored.kept b.stored.open_page none) run (back_none b.stored.kept b.stored.open_page none) in
     let rests : b.feed ≡ stopped room reach = feed ∙ ap (λ k. stopped k reach) seat in
-    ap (λ s. record { stored = s; feed = b.feed }) pages ∙ ap (λ f. record { stored = record { room = room; kept = []; run = None; open_page = [] }; feed = f }) rests
+    ap (λ s. record { stored = s; feed = b.feed; read_last = b.read_last }) pages
+    ∙ ap (λ f. record { stored = record { room = room; kept = []; run = None; open_page = [] }; feed = f; read_last = b.read_last }) rests
+    ∙ ap (λ k. record { stored = record { room = room; kept = []; run = None; open_page = [] }; feed = stopped room reach; read_last = k }) forgot
   where
     front_none : (xs ys : List SegmentView) → xs ++ ys ≡ [] → xs ≡ []
     front_none [] ys none = refl

@@ -3,9 +3,8 @@ use Rattle.std.specs.Prelude.{◌≡◌, ◌⊎◌, ℕ, ◌+◌, ◌-◌, ◌<�
 use Rattle.std.specs.Result.{result_ok}
 use Rattle.segment_core.specs.Segments.{SegmentView, segment_sum}
 use Rattle.flow_outside.specs.Blocks.{Blocks}
-use Rattle.paged_view.specs.Pages.{used_bytes}
-use Rattle.spool.specs.Headers.{IsSameSegment}
-use Rattle.lot_store.specs.Spilling.{ForeignBlocksUnchanged, OwnsBlock, NoOrphanBlocks}
+use Rattle.paged_view.specs.Pages.{used_bytes, IsSameSegment}
+use Rattle.spool.specs.Spilling.{ForeignBlocksUnchanged, OwnsBlock, NoOrphanBlocks}
 use Rattle.page_feed.specs.Reach.{sizes_of}
 use Rattle.lot_store.specs.Stores.{PagesView, StandsWith, held, sizes, stored_sizes, text}
 

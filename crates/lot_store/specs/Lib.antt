@@ -1,4 +1,3 @@
-pub mod Spilling
 pub mod Stores
 pub mod Keeping
 pub mod Lots

@@ -1,5 +1,5 @@
 -- What the public calls over one lot say beside what they preserve. The rules are this project's own.
-use Rattle.std.specs.Prelude.{◌≡◌, ℕ, ◌+◌, ◌<◌, ◌≤◌, Bool, true, List, [], ◌∷◌, length, Option, Some, None, Ok, Result, IsErrOf, MatchResult, is_some}
+use Rattle.std.specs.Prelude.{◌≡◌, ℕ, ◌+◌, ◌<◌, ◌≤◌, Bool, true, List, [], ◌∷◌, length, Option, Some, None, Ok, Result, IfSome, IsErrOf, MatchResult, is_some}
 use Rattle.segment_core.specs.Segments.{PurseView, SegmentView}
 use Rattle.flow_outside.specs.Blocks.{Blocks}
 use Rattle.flow_outside.specs.Causes.{HasStreamCause}
@@ -51,11 +51,14 @@ pub record IsAtFirst (lot : LotView) : Type 0 where
   pub ready : IsRewound lot
   pub none_shown : lot.feed.shown ≡ None
   pub none_read : block_of lot.feed.run ≡ 0
+  pub none_before : lot.read_last ≡ 0
 
--- After an advance it may be advanced again, and shows a record exactly where the answer was that there is one.
+-- After an advance it may be advanced again, and shows a record exactly where the answer was that there is one. What was
+-- read last is its reader's block.
 pub record IsShowing (answer : Result Bool StreamFault) (lot : LotView) : Type 0 where
   pub ready : IsRewound lot
   pub shown : MatchResult answer (λ more. is_some lot.feed.shown ≡ more) (λ _. lot.feed.shown ≡ None)
+  pub read : IfSome lot.feed.run (λ reader. lot.read_last ≡ reader.block)
 
 -- No more records are left than before, and fewer where one is shown.
 pub record GetsShorter (answer : Result Bool StreamFault) (before after : LotView) : Type 0 where
@@ -67,6 +70,7 @@ pub record GetsShorter (answer : Result Bool StreamFault) (before after : LotVie
 pub record HasReadCause (before now : ℕ) (told : Option Blocks) (lot : LotView) (answer : Result Bool StreamFault) : Type 0 where
   pub cause : HasStreamCause before now told answer
   pub damaged : (block : ℕ) → IsErrOf answer (fault.Damaged block) → block ≡ block_of lot.feed.run
+  pub known : (block : ℕ) → IsErrOf answer (fault.Damaged block) → block ≡ lot.read_last
 
 -- The disk tells what it told and has given as many blocks. Of a lot with no spilled page it isn't called at all, and so
 -- never the cause of a fault.

@@ -2,7 +2,7 @@
 use Rattle.std.specs.Prelude.{◌≡◌, ◌⊎◌, ℕ, ◌+◌, ◌-◌, ◌/◌, ◌≤◌, List, [], ◌∷◌, ◌++◌, None, length, replicate}
 use Rattle.segment_core.specs.Segments.{SegmentView, segment_sum}
 use Rattle.flow_outside.specs.Blocks.{Blocks}
-use Rattle.lot_store.specs.Spilling.{ForeignBlocksUnchanged, OwnsBlock, NoOrphanBlocks}
+use Rattle.spool.specs.Spilling.{ForeignBlocksUnchanged, OwnsBlock, NoOrphanBlocks}
 use Rattle.lot_store.specs.Keeping.{AddsPages, PutsPage as PutsInto}
 use Rattle.lot_store.specs.Lots.{HoldsRows, LotView, StandsWith, held, pages_of, text}
 

@@ -7,14 +7,16 @@ use Rattle.flow_types.specs.Records.{frames}
 use Rattle.paged_view.specs.Pages.{body, page_at, used_bytes, used}
 use Rattle.page_feed.specs.Feeds.{FeedView, HasBlockLeft, HasLeft, IsStarted, kept_in, open_page_in, lent, stopped}
 use Rattle.page_feed.specs.Reach.{IsWithinReach}
-use Rattle.lot_store.specs.Spilling.{IsSpilled, OwnsBlock}
+use Rattle.spool.specs.Spilling.{IsSpilled, OwnsBlock}
 use Rattle.lot_store.specs.Stores.{PagesView, held as held_stored, sizes as sizes_stored, text as text_stored}
 
--- A lot is seen as its pages while they are written, and the feed that reads them. While it is read, the feed has those of
--- its pages that stand in segments.
+-- A lot is seen as its pages while they are written, the feed that reads them, and the block that was read last since it
+-- was last rewound, 0 where none was: the lot knows it until it is rewound again. While it is read, the feed has those of its
+-- pages that stand in segments.
 pub record LotView : Type 0 where
   pub stored : PagesView
   pub feed : FeedView
+  pub read_last : ℕ
 
 -- the lot's pages, wherever they stand
 abbrev pub pages_of : LotView → PagesView
@@ -53,6 +55,7 @@ abbrev pub empty : (room reach : ℕ) → LotView
 empty room reach = record {
   stored = record { room = room; kept = []; run = None; open_page = [] };
   feed = stopped room reach;
+  read_last = 0;
 }
 
 -- It may be advanced: its feed was started, with all pages that stand in segments.

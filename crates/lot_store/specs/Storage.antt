@@ -5,7 +5,7 @@ use Rattle.flow_outside.specs.Blocks.{Blocks, BothTold, IsLive}
 use Rattle.flow_outside.specs.Told.{IfTold}
 use Rattle.spool.specs.Runs.{next_in}
 use Rattle.spool.specs.declared.writer.RunWriter.{RunWriter}
-use Rattle.lot_store.specs.Spilling.{IsSpilled}
+use Rattle.spool.specs.Spilling.{IsSpilled}
 use Rattle.lot_store.specs.Lots.{LotView, ReadsOwn, held, pages_of}
 
 -- What a call works on: the blocks of its disk, where told, a purse, and some lots by their places. It stands in contracts

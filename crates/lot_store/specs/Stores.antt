@@ -8,7 +8,7 @@ use Rattle.spool.specs.Headers.{as_page}
 use Rattle.spool.specs.Runs.{joined}
 use Rattle.spool.specs.declared.writer.RunWriter.{RunWriter}
 use Rattle.page_feed.specs.Reach.{sizes_of}
-use Rattle.lot_store.specs.Spilling.{IsBegun, IsSpilled, spilled}
+use Rattle.spool.specs.Spilling.{IsBegun, IsSpilled, spilled}
 
 -- Pages that are written one behind the other are seen as the most full pages that are kept in segments, the first pages,
 -- which are kept in segments, the run of those behind them, which are spilled, and the open page behind all of

@@ -1,9 +1,9 @@
-ghost use Rattle.std.specs.Prelude.{◌≡◌, ◌+◌, ◌^◌, ◌<◌, ◌≤◌, [], ◌∷◌, ◌++◌, OnOk, length};
+ghost use Rattle.std.specs.Prelude.{◌≡◌, ◌+◌, ◌^◌, ◌<◌, ◌≤◌, ◌∷◌, OnOk, length};
 ghost use Rattle.flow_outside.specs.Blocks.{BothTold};
 ghost use Rattle.flow_types.specs.Records.{framed};
 ghost use Rattle.lot_store.specs.LotKeeping.{AddsFullPages, AddsRow, AddsText, Keeps, MovesSegments, PutsPage};
 ghost use Rattle.lot_store.specs.Lots.{IsSound, held, pages_of};
-ghost use Rattle.lot_store.specs.Spilling.{HasWriteCause};
+ghost use Rattle.spool.specs.Spilling.{HasWriteCause};
 ghost use Rattle.page_feed.specs.Feeds.{lent, stopped};
 ghost use Rattle.paged_view.specs.Pages.{used_bytes};
 

@@ -3,7 +3,7 @@ ghost use Rattle.flow_outside.specs.Blocks.{BothTold};
 ghost use Rattle.flow_types.specs.Records.{framed};
 ghost use Rattle.lot_store.specs.Keeping.{AddsFullPages, AddsText, Keeps, MovesSegments};
 ghost use Rattle.lot_store.specs.Stores.{IsSound, held};
-ghost use Rattle.lot_store.specs.Spilling.{HasWriteCause};
+ghost use Rattle.spool.specs.Spilling.{HasWriteCause};
 
 use crate::stored::StoredPages;
 use flow_outside::failure::StreamFault;

@@ -3,13 +3,13 @@ ghost use Rattle.flow_outside.specs.Blocks.{BothTold};
 ghost use Rattle.lot_store.specs.Keeping.{AddsPages, AddsText, Keeps, MovesSegments, PutsPage};
 ghost use Rattle.page_feed.specs.Reach.{sizes_of};
 ghost use Rattle.lot_store.specs.Stores.{IsSound, held};
-ghost use Rattle.lot_store.specs.Spilling.{HasWriteCause};
+ghost use Rattle.spool.specs.Spilling.{HasWriteCause};
 ghost use Rattle.paged_view.specs.Pages.{body, used_bytes, used};
 
-use crate::page::trim;
 use crate::stored::StoredPages;
 use flow_outside::failure::StreamFault;
 use flow_outside::spill::Spill;
+use paged_view::fill::trim;
 use segment_core::{Purse, Segment};
 
 impl StoredPages {

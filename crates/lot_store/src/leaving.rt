@@ -4,7 +4,7 @@ ghost use Rattle.flow_outside.specs.Causes.{HasStreamCause};
 ghost use Rattle.lot_store.specs.LotKeeping.{AddsText, Keeps, KeepsOthers, KeepsRows, MovesSegments};
 ghost use Rattle.lot_store.specs.LotCalls.{spilled_count};
 ghost use Rattle.lot_store.specs.Lots.{IsSound, held, pages_of};
-ghost use Rattle.lot_store.specs.Spilling.{FreesBlocks, HasWriteCause, IsDamagedIn};
+ghost use Rattle.spool.specs.Spilling.{FreesBlocks, HasWriteCause, IsDamagedIn};
 ghost use Rattle.page_feed.specs.Feeds.{lent, stopped};
 
 use crate::lot::Lot;
@@ -35,6 +35,7 @@ impl Lot {
         ensures fits { length purse.new.pages + length (held self.new) ≤ purse.new.room }
         ensures own { self.new.stored.room ≡ self.old.stored.room }
         ensures rest { self.new.feed ≡ stopped self.old.feed.room self.old.feed.reach }
+        ensures last { self.new.read_last ≡ self.old.read_last }
     {
         self.stop(purse);
         self.stored.rest(purse, disk)
@@ -60,11 +61,14 @@ impl Lot {
         ensures room { purse.new.room ≡ purse.old.room }
         ensures own { self.new.stored.room ≡ self.old.stored.room }
         ensures rest { self.new.feed ≡ stopped self.old.feed.room self.old.feed.reach }
-        ensures damaged { (block : ℕ) → IsErrOf result (StreamFault.Damaged block) → IsDamagedIn self.old.stored.run block }
+        ensures damaged { (block : ℕ) → IsErrOf result (StreamFault.Damaged block) →
+            IsDamagedIn self.old.stored.run block }
         ensures seat { self.old.feed.room ≡ self.old.stored.room }
+        ensures forgot { self.new.read_last ≡ 0 }
         ensures quiet { spilled_count self.old.stored.run ≡ 0 → (disk.new ≡ disk.old) × (result ≡ Ok tt) }
     {
         self.stop(purse);
+        self.last_block = 0;
         self.stored.limits();
         self.stored.drop_lot(purse, disk)
     }

@@ -1,14 +1,14 @@
-ghost use Rattle.std.specs.Prelude.{◌≡◌, ℕ, ◌+◌, ◌^◌, ◌<◌, ◌≤◌, List, [], ◌∷◌, true, Ok, IfOk, IsErrOf, OnOk, IsSome, is_ok, length};
+ghost use Rattle.std.specs.Prelude.{◌≡◌, ℕ, ◌+◌, ◌^◌, ◌<◌, ◌≤◌, List, [], ◌∷◌, Ok, IfOk, IsErrOf, OnOk, IsSome, is_ok, length};
 ghost use Rattle.flow_outside.specs.Blocks.{BothTold};
 ghost use Rattle.flow_outside.specs.Causes.{HasStreamCause};
 ghost use Rattle.flow_outside.specs.Told.{IfTold};
 ghost use Rattle.lot_store.specs.LotCalls.{AppendsPage, AppendsRow, GetsShorter, HasReadCause, IsAtFirst, IsShowing, IsSupplied, KeepsContents, LeavesDisk, Reads, Writes, spilled_count};
-ghost use Rattle.lot_store.specs.Spilling.{FreesBlocks, HasWriteCause, IsDamagedIn};
+ghost use Rattle.spool.specs.Spilling.{FreesBlocks, HasWriteCause, IsDamagedIn};
 ghost use Rattle.lot_store.specs.Storage.{IsReady, Preserves, alone, with_segment};
 ghost use Rattle.paged_view.specs.Streams.{Advances, KnowsRows};
 ghost use Rattle.lot_store.specs.Lots.{HoldsRows, IsAtRest, IsLeft, IsRewound, empty, held, pages_of};
-ghost use Rattle.lot_store.specs.Reads.{BeginsAt, HandsOver};
-ghost use Rattle.page_feed.specs.Feeds.{HasLeft, IsStarted, kept_in, open_page_in, lent, stopped};
+ghost use Rattle.lot_store.specs.Reads.{BeginsAt};
+ghost use Rattle.page_feed.specs.Feeds.{HasLeft, IsStarted, lent, stopped};
 ghost use Rattle.segment_core.specs.Segments.{PurseView, segment_sum};
 
 use crate::stored::StoredPages;
@@ -26,14 +26,21 @@ use std::marker::Model;
 pub struct Lot {
     pub(crate) stored: StoredPages,
     pub(crate) feed: Feed,
+    // the block that was read last, where no run is being read
+    pub(crate) last_block: u64,
 }
 
 impl Model for Lot {
     ghost use Rattle.lot_store.specs.Lots.{IsLot, LotView};
+    ghost use Rattle.page_feed.specs.Feeds.{block_or};
 
     ghost Value = { LotView };
 
-    ghost view = { λ l. record { stored = l.stored; feed = l.feed } };
+    ghost view = { λ l. record {
+      stored = l.stored;
+      feed = l.feed;
+      read_last = block_or l.feed.run l.last_block;
+    } };
 
     ghost invariant = { λ l. IsLot l.stored l.feed };
 }
@@ -46,7 +53,11 @@ impl Lot {
     {
         let feed = Feed::open(alloc, room, reach)?;
         match StoredPages::open(alloc, room) {
-            Ok(stored) => Ok(Lot { stored, feed }),
+            Ok(stored) => Ok(Lot {
+                stored,
+                feed,
+                last_block: 0,
+            }),
             Err(Memory) => {
                 feed.end();
                 Err(Memory)
@@ -59,9 +70,13 @@ impl Lot {
         requires { length purse.old.pages + length (lent self.old.feed) ≤ purse.old.room }
         ensures stored { self.new.stored ≡ pages_of self.old }
         ensures feed { self.new.feed ≡ stopped self.old.feed.room self.old.feed.reach }
+        ensures last { self.new.read_last ≡ self.old.read_last }
         ensures room { purse.new.room ≡ purse.old.room }
-        ensures segments { (h : ℕ → ℕ → ℕ) → segment_sum h purse.new.pages ≡ segment_sum h purse.old.pages + segment_sum h (lent self.old.feed) }
+        ensures segments { (h : ℕ → ℕ → ℕ) →
+            segment_sum h purse.new.pages
+            ≡ segment_sum h purse.old.pages + segment_sum h (lent self.old.feed) }
     {
+        self.last_block = self.feed.block_or(self.last_block);
         self.stored.take_back(&mut self.feed, purse);
     }
 
@@ -71,10 +86,21 @@ impl Lot {
         requires supply { self.old.feed.reach ≤ length purse.old.pages }
         ensures begins { BeginsAt self.old self.new }
         ensures started { IsStarted self.new.feed }
+        ensures none { self.new.read_last ≡ 0 }
         ensures room { purse.new.room ≡ purse.old.room }
-        ensures segments { (h : ℕ → ℕ → ℕ) → segment_sum h purse.new.pages + segment_sum h self.new.feed.blank ≡ segment_sum h purse.old.pages }
+        ensures segments { (h : ℕ → ℕ → ℕ) →
+            segment_sum h purse.new.pages + segment_sum h self.new.feed.blank
+            ≡ segment_sum h purse.old.pages }
     {
+        self.last_block = 0;
         self.stored.hand_over(&mut self.feed, purse);
+    }
+
+    /// The block that was read last since it was last rewound, 0 where none was. It costs nothing.
+    pub fn last_block(&self) -> u64
+        ensures { result ≡ self.now.read_last }
+    {
+        self.feed.block_or(self.last_block)
     }
 
     /// How many of its pages aren't in segments. It costs nothing.
@@ -134,7 +160,7 @@ impl Lot {
 
     /// Stops reading, and leaves at most `room` segments in the lot, whatever it answers: the segments for
     /// reading go to the purse, and the open page is spilled exactly where the lot then still holds more,
-    /// with one write.
+    /// with one write. It still knows which block was read last.
     ///
     /// `Spill` only where the disk's count of faults rose in this call; what the lot stands for is then open.
     pub fn rest<D: Spill>(&mut self, purse: &mut Purse, disk: &mut D) -> Result<(), StreamFault>
@@ -146,6 +172,7 @@ impl Lot {
             Reads (D.told disk.old) (D.told disk.new) purse.old purse.new self.old self.new
             × (D.told disk.new ≡ D.told disk.old) }
         ensures rests { length (held self.new) ≤ self.new.stored.room }
+        ensures last { self.new.read_last ≡ self.old.read_last }
         ensures cause { HasWriteCause (D.fault_count disk.old) (D.fault_count disk.new) result }
         ensures at_rest { IsAtRest self.new }
     {
@@ -166,7 +193,8 @@ impl Lot {
         ensures preserves { Preserves (alone (D.told disk.old) purse.old self.old)
             (alone (D.told disk.new) purse.new self.new) (0 ∷ []) (0 ∷ []) (is_ok result) }
         ensures cause { HasStreamCause (D.fault_count disk.old) (D.fault_count disk.new) (D.told disk.old) result }
-        ensures damaged { (block : ℕ) → IsErrOf result (StreamFault.Damaged block) → IsDamagedIn self.old.stored.run block }
+        ensures damaged { (block : ℕ) → IsErrOf result (StreamFault.Damaged block) →
+            IsDamagedIn self.old.stored.run block }
         ensures quiet { spilled_count self.old.stored.run ≡ 0 → (disk.new ≡ disk.old) × (result ≡ Ok tt) }
     {
         self.give_up(purse, disk)
@@ -214,7 +242,11 @@ impl Lot {
     pub fn end(self)
         requires { held self ≡ [] }
     {
-        let Lot { stored, feed } = self;
+        let Lot {
+            stored,
+            feed,
+            last_block: _,
+        } = self;
         stored.end();
         feed.end();
     }

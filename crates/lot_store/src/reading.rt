@@ -1,4 +1,4 @@
-ghost use Rattle.std.specs.Prelude.{◌≡◌, ℕ, ◌+◌, ◌<◌, ◌≤◌, true, List, None, Ok, IfOk, IsErrOf, MatchResult, is_some, length, option_map};
+ghost use Rattle.std.specs.Prelude.{◌≡◌, ℕ, ◌+◌, ◌<◌, ◌≤◌, true, List, None, Ok, IfOk, IfSome, IsErrOf, MatchResult, is_some, length, option_map};
 ghost use Rattle.flow_outside.specs.Blocks.{BothTold};
 ghost use Rattle.flow_outside.specs.Causes.{HasStreamCause};
 ghost use Rattle.flow_outside.specs.Told.{IfTold};
@@ -31,9 +31,11 @@ impl Lot {
         ensures disk { disk.new ≡ disk.old }
         ensures ready { IsRewound self.new }
         ensures rows { IfTold (D.told disk.old) (λ blocks. (rows : List (List ℕ)) →
-            HoldsRows blocks self.old rows → HoldsRows blocks self.new rows × HasLeft blocks self.new.feed rows) }
+            HoldsRows blocks self.old rows → HoldsRows blocks self.new rows ×
+            HasLeft blocks self.new.feed rows) }
         ensures shown { self.new.feed.shown ≡ None }
         ensures block { block_of self.new.feed.run ≡ 0 }
+        ensures none { self.new.read_last ≡ 0 }
         ensures pages { pages_of self.new ≡ pages_of self.old }
         ensures keeps { BothTold (D.told disk.old) (D.told disk.new)
             (Keeps self.old self.new purse.old.pages purse.new.pages) }
@@ -61,13 +63,17 @@ impl Lot {
             (λ _. self.new.feed.shown ≡ None) }
         ensures later { most_in self.new.feed ≤ most_in self.old.feed }
         ensures falls { result ≡ Ok true → most_in self.new.feed < most_in self.old.feed }
-        ensures segments { (h : ℕ → ℕ → ℕ) → segment_sum h (segments_of self.new) ≡ segment_sum h (segments_of self.old) }
+        ensures segments { (h : ℕ → ℕ → ℕ) → segment_sum h (segments_of self.new)
+            ≡ segment_sum h (segments_of self.old) }
         ensures tells { D.told disk.new ≡ D.told disk.old }
         ensures counted { D.given disk.new ≡ D.given disk.old }
         ensures cause { HasStreamCause (D.fault_count disk.old) (D.fault_count disk.new)
             (D.told disk.old) result }
         ensures damaged { (block : ℕ) → IsErrOf result (StreamFault.Damaged block) →
             block ≡ block_of self.new.feed.run }
+        ensures known { (block : ℕ) → IsErrOf result (StreamFault.Damaged block) →
+            block ≡ self.new.read_last }
+        ensures read { IfSome self.new.feed.run (λ reader. self.new.read_last ≡ reader.block) }
         ensures pages { pages_of self.new ≡ pages_of self.old }
         ensures reach { self.new.feed.reach ≡ self.old.feed.reach }
         ensures holds { IfTold (D.told disk.old) (λ blocks. (rows : List (List ℕ)) →
@@ -75,11 +81,18 @@ impl Lot {
         ensures stands { IfTold (D.told disk.old) (λ blocks. (size : ℕ) (purse : List SegmentView) →
             StandsWith size self.old purse blocks → StandsWith size self.new purse blocks) }
         ensures same_run { self.new.stored.run ≡ self.old.stored.run }
-        ensures quiet { spilled_count self.old.stored.run ≡ 0 → (disk.new ≡ disk.old) × (IsErrOf result StreamFault.Spill → ⊥) }
+        ensures quiet { spilled_count self.old.stored.run ≡ 0 → (disk.new ≡ disk.old) ×
+            (IsErrOf result StreamFault.Spill → ⊥) }
     {
         // What is true of its pages and its feed, for the prover alone.
         self.stored.limits();
-        self.feed.advance(disk)
+        match self.feed.advance(disk) {
+            Ok(more) => Ok(more),
+            Err(fault) => {
+                self.last_block = self.feed.block();
+                Err(fault)
+            }
+        }
     }
 }
 

@@ -1,10 +1,10 @@
-ghost use Rattle.std.specs.Prelude.{◌≡◌, ℕ, List, IsErrOf, ◌+◌, ◌<◌, ◌≤◌, [], ◌∷◌, ◌++◌, None, Ok, OnOk, IsSome, length};
+ghost use Rattle.std.specs.Prelude.{◌≡◌, ℕ, List, IsErrOf, ◌+◌, ◌<◌, ◌≤◌, [], None, Ok, OnOk, IsSome, length};
 ghost use Rattle.flow_outside.specs.Blocks.{BothTold};
 ghost use Rattle.flow_outside.specs.Causes.{HasStreamCause};
 ghost use Rattle.flow_outside.specs.Told.{IfTold};
 ghost use Rattle.lot_store.specs.Keeping.{AddsText, Keeps, KeepsOthers, KeepsSizes, MovesSegments};
 ghost use Rattle.lot_store.specs.Stores.{IsSound, held};
-ghost use Rattle.lot_store.specs.Spilling.{FreesBlocks, HasWriteCause, IsDamagedIn, StandsAlone};
+ghost use Rattle.spool.specs.Spilling.{FreesBlocks, HasWriteCause, IsDamagedIn, StandsAlone};
 ghost use Rattle.segment_core.specs.Segments.{segment_sum};
 ghost use Rattle.spool.specs.Reading.{IsDamagedAt};
 ghost use Rattle.spool.specs.Changes.{IsFreed, ForeignBlocksUnchanged as LeavesBut};
@@ -74,7 +74,8 @@ impl StoredPages {
         ensures segments { MovesSegments self.old self.new purse.old.pages purse.new.pages }
         ensures room { purse.new.room ≡ purse.old.room }
         ensures own { self.new.room ≡ self.old.room }
-        ensures damaged { (block : ℕ) → IsErrOf result (StreamFault.Damaged block) → IsDamagedIn self.old.run block }
+        ensures damaged { (block : ℕ) → IsErrOf result (StreamFault.Damaged block) →
+            IsDamagedIn self.old.run block }
         ensures quiet { self.old.run ≡ None → (disk.new ≡ disk.old) × (result ≡ Ok tt) }
     {
         self.give_all(purse);
@@ -94,7 +95,8 @@ fn end_run<D: Spill>(run: Run, purse: &mut Purse, disk: &mut D) -> Result<(), St
     ensures others { BothTold (D.told disk.old) (D.told disk.new) (LeavesBut run) }
     ensures segments { (h : ℕ → ℕ → ℕ) → segment_sum h purse.new.pages ≡ segment_sum h purse.old.pages }
     ensures room { purse.new.room ≡ purse.old.room }
-    ensures damaged { (block : ℕ) → IsErrOf result (StreamFault.Damaged block) → (page : List ℕ) × IsDamagedAt run block page }
+    ensures damaged { (block : ℕ) → IsErrOf result (StreamFault.Damaged block) → (page : List ℕ) ×
+        IsDamagedAt run block page }
 {
     match purse.take() {
         Some(page) => {

@@ -2,14 +2,14 @@ ghost use Rattle.std.specs.Prelude.{◌≡◌, ℕ, ◌+◌, ◌<◌, ◌≤◌,
 ghost use Rattle.flow_outside.specs.Blocks.{BothTold};
 ghost use Rattle.lot_store.specs.Keeping.{AddsFullPages, AddsPages, AddsText, Keeps, MovesSegments, Trades, in_hand};
 ghost use Rattle.lot_store.specs.Stores.{IsSound, held};
-ghost use Rattle.lot_store.specs.Spilling.{HasWriteCause};
+ghost use Rattle.spool.specs.Spilling.{HasWriteCause};
 ghost use Rattle.paged_view.specs.Pages.{body, used_bytes, all_used_bytes, used};
 ghost use Rattle.segment_core.specs.Segments.{segment_sum};
 
-use crate::page::{add_bytes, clear, has_space};
 use crate::stored::StoredPages;
 use flow_outside::failure::StreamFault;
 use flow_outside::spill::Spill;
+use paged_view::fill::{add_bytes, clear, has_space};
 use paged_view::page::body_of;
 use segment_core::{Purse, Segment};
 

@@ -6,20 +6,19 @@ ghost use Rattle.flow_outside.specs.Told.{IfTold};
 ghost use Rattle.lot_store.specs.LotCalls.{spilled_count};
 ghost use Rattle.flow_types.specs.Records.{framed};
 ghost use Rattle.lot_store.specs.Stores.{ArePages, HasRoom, held};
-ghost use Rattle.lot_store.specs.Spilling.{HasWriteCause, IsLonger, IsSpilled, IsUnchanged};
+ghost use Rattle.spool.specs.Spilling.{HasWriteCause, IsLonger, IsSpilled, IsUnchanged};
 ghost use Rattle.lot_store.specs.Reads.{HandsOver};
 ghost use Rattle.page_feed.specs.Feeds.{IsStarted, kept_in, open_page_in, lent, stopped};
-ghost use Rattle.paged_view.specs.Pages.{all_used_bytes, body, page_at, used_bytes, used};
-ghost use Rattle.spool.specs.Headers.{IsSameSegment};
+ghost use Rattle.paged_view.specs.Pages.{all_used_bytes, body, page_at, used_bytes, used, IsSameSegment};
 
 use crate::handing::{give_pages, reader_of, take_pages};
-use crate::page::{add_record, has_room};
-use crate::spill::spill;
 use flow_outside::failure::{Memory, StreamFault};
 use flow_outside::spill::Spill;
 use page_feed::feed::Feed;
+use paged_view::fill::{add_record, has_room};
 use segment_core::{Purse, Segment};
 use span_bytes::span::Span;
+use spool::spill::spill;
 use spool::writer::RunWriter;
 use std::alloc::Global;
 use std::marker::Model;
@@ -108,7 +107,8 @@ impl StoredPages {
     ) -> Result<(), StreamFault>
         requires some { 0 < used page.old }
         requires within { used page.old ≤ length (body page.old) }
-        requires stands { IfTold (D.told disk.old) (λ blocks. IsSpilled blocks (length page.old.bytes) self.old.run) }
+        requires stands { IfTold (D.told disk.old)
+            (λ blocks. IsSpilled blocks (length page.old.bytes) self.old.run) }
         ensures cause { HasWriteCause (D.fault_count disk.old) (D.fault_count disk.new) result }
         ensures same { IsSameSegment page.old page.new }
         ensures used_bytes { used_bytes page.new ≡ used_bytes page.old }
@@ -135,12 +135,14 @@ impl StoredPages {
     pub(crate) fn put_here<X: Span>(&mut self, row: &X)
         requires len { length (X.seen row.now) < 2 ^ 32 }
         requires room { HasRoom self.old (length (X.seen row.now)) }
-        ensures added { all_used_bytes self.new.open_page ≡ all_used_bytes self.old.open_page ++ framed (X.seen row.now) }
+        ensures added { all_used_bytes self.new.open_page
+            ≡ all_used_bytes self.old.open_page ++ framed (X.seen row.now) }
         ensures one { length self.new.open_page ≡ 1 }
         ensures kept { self.new.kept ≡ self.old.kept }
         ensures run { self.new.run ≡ self.old.run }
         ensures own { self.new.room ≡ self.old.room }
-        ensures segments { (h : ℕ → ℕ → ℕ) → segment_sum h self.new.open_page ≡ segment_sum h self.old.open_page }
+        ensures segments { (h : ℕ → ℕ → ℕ) → segment_sum h self.new.open_page
+            ≡ segment_sum h self.old.open_page }
     {
         add_record(&mut self.open_page[0], row);
     }
@@ -221,7 +223,8 @@ impl StoredPages {
         requires filled { All (λ page. 0 < length (used_bytes page)) (kept_in feed.old) }
         requires one { length (open_page_in feed.old) ≤ 1 }
         requires some { 0 < length (open_page_in feed.old) → 0 < used (page_at (open_page_in feed.old) 0) }
-        requires within { used (page_at (open_page_in feed.old) 0) ≤ length (body (page_at (open_page_in feed.old) 0)) }
+        requires within { used (page_at (open_page_in feed.old) 0)
+            ≤ length (body (page_at (open_page_in feed.old) 0)) }
         requires room { length purse.old.pages + length (lent feed.old) ≤ purse.old.room }
         ensures kept { self.new.kept ≡ self.old.kept ++ kept_in feed.old }
         ensures open_page { self.new.open_page ≡ self.old.open_page ++ open_page_in feed.old }
@@ -229,7 +232,8 @@ impl StoredPages {
         ensures own { self.new.room ≡ self.old.room }
         ensures feed { feed.new ≡ stopped feed.old.room feed.old.reach }
         ensures room { purse.new.room ≡ purse.old.room }
-        ensures segments { (h : ℕ → ℕ → ℕ) → segment_sum h purse.new.pages ≡ segment_sum h purse.old.pages + segment_sum h (lent feed.old) }
+        ensures segments { (h : ℕ → ℕ → ℕ) → segment_sum h purse.new.pages
+            ≡ segment_sum h purse.old.pages + segment_sum h (lent feed.old) }
     {
         take_pages(&mut self.kept, &mut self.open_page, feed, purse);
     }
@@ -247,7 +251,9 @@ impl StoredPages {
         ensures some { 0 < length self.old.open_page → 0 < used (page_at self.old.open_page 0) }
         ensures within { used (page_at self.old.open_page 0) ≤ length (body (page_at self.old.open_page 0)) }
         ensures room { purse.new.room ≡ purse.old.room }
-        ensures segments { (h : ℕ → ℕ → ℕ) → segment_sum h purse.new.pages + segment_sum h feed.new.blank ≡ segment_sum h purse.old.pages }
+        ensures segments { (h : ℕ → ℕ → ℕ) →
+            segment_sum h purse.new.pages + segment_sum h feed.new.blank
+            ≡ segment_sum h purse.old.pages }
     {
         let reader = reader_of(&self.run);
         give_pages(&mut self.kept, &mut self.open_page, reader, feed, purse);
@@ -275,7 +281,8 @@ fn give(pages: &mut Vec<Segment>, purse: &mut Purse)
     ensures len { vec_len pages.new ≡ 0 }
     ensures capacity { vec_capacity pages.new ≡ vec_capacity pages.old }
     ensures room { purse.new.room ≡ purse.old.room }
-    ensures segments { (h : ℕ → ℕ → ℕ) → segment_sum h purse.new.pages ≡ segment_sum h purse.old.pages + segment_sum h pages.old.items }
+    ensures segments { (h : ℕ → ℕ → ℕ) → segment_sum h purse.new.pages
+        ≡ segment_sum h purse.old.pages + segment_sum h pages.old.items }
     ensures count { length purse.new.pages ≡ length purse.old.pages + length pages.old.items }
 {
     'pages: while let Some(page) = pages.pop() {

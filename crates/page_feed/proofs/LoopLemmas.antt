@@ -9,9 +9,9 @@ use Rattle.flow_outside.specs.declared.failure.StreamFault.TheVariants.{Spill, D
 use Rattle.paged_view.specs.Reading.{HasRecord}
 use Rattle.paged_view.specs.Streams.{Advances}
 use Rattle.page_feed.specs.Feeds.{FeedView, HasBlockLeft, HasLeft, IsLeftReadable, lent, most_left, pages_to_read}
-use Rattle.page_feed.specs.Feeding.{GoesOn, IsFed, IsGivenOut, IsKnown, IsPutAway, IsStuck, PutsAway, pages_to_give}
+use Rattle.page_feed.specs.Feeding.{GoesOn, IsFed, IsGivenOut, IsKnown, IsPutAway, IsStuck, KeepsPages, PutsAway, pages_to_give}
 use Rattle.page_feed.proofs.EndLemmas.{ends, not_told}
-use Rattle.page_feed.proofs.LeftLemmas.{goes_away, goes_join, known_on, left_on, told_all, told_map}
+use Rattle.page_feed.proofs.LeftLemmas.{goes_away, goes_join, known_on, left_on, told_all}
 
 -- The same feed, with no record shown.
 goes_hidden_at : (t : Option Blocks) (a : FeedView) → GoesOn t a (record a { shown = None })
@@ -98,10 +98,19 @@ cause_on t u a b c answer same later cause = record {
 pub no_record : (found : Bool) (text : List ℕ) → (HasRecord text → found ≡ true) → found ≡ false → HasRecord text → ⊥
 no_record found text tells lacks has = let yes = tells has in absurd cc
 
--- What is left of the run stands, as a caller of an advance sees it.
-pub readable_all : (t : Option Blocks) (a e : FeedView) → IfTold t (λ m. (size : ℕ) → count_other_size size (lent a) ≡ 0 → IsLeftReadable m size a.run → IsLeftReadable m size e.run)
-    → IfTold t (λ m. (size : ℕ) → count_other_size size a.blank ≡ 0 → count_other_size size (lent a) ≡ 0 → IsLeftReadable m size a.run → IsLeftReadable m size e.run)
-readable_all t a e readable =
-    told_map t (λ m. (size : ℕ) → count_other_size size (lent a) ≡ 0 → IsLeftReadable m size a.run → IsLeftReadable m size e.run)
-    (λ m. (size : ℕ) → count_other_size size a.blank ≡ 0 → count_other_size size (lent a) ≡ 0 → IsLeftReadable m size a.run → IsLeftReadable m size e.run)
-    (λ m on size blank fit run. on size fit run) readable
+-- At the end no record is shown.
+pub none_shown : {E : Type 0} (answer : Result Bool E) (shown : Option (List ℕ)) → shown ≡ None → IfOk answer (λ more. more ≡ false) → MatchResult answer (λ more. is_some shown ≡ more) (λ _. shown ≡ None)
+none_shown (Ok more) shown none end = ap is_some none ∙ sym end
+none_shown (Err fault) shown none end = none
+
+-- What the steps keep, an advance keeps.
+pub keeps_pages : (t : Option Blocks) (a b : FeedView) → GoesOn t a b → KeepsPages t a b
+keeps_pages t a b goes = record {
+  room = goes.room;
+  reach = goes.reach;
+  kept = goes.kept;
+  open_page = goes.open_page;
+  weights = goes.weights;
+  among = goes.among;
+  readable = goes.readable;
+}

@@ -9,9 +9,9 @@ use Rattle.flow_outside.specs.Blocks.{Blocks}
 use Rattle.flow_outside.specs.Told.{IfTold}
 use Rattle.flow_outside.specs.declared.failure.StreamFault.{StreamFault}
 use Rattle.flow_outside.specs.declared.failure.StreamFault.TheVariants.{Spill, Damaged}
-use Rattle.paged_view.specs.Pages.{used_bytes, all_used_bytes}
+use Rattle.paged_view.specs.Pages.{used_bytes, all_used_bytes, IsSameSegment}
 use Rattle.paged_view.specs.Reading.{Reading, has_spent}
-use Rattle.spool.specs.Headers.{IsSameSegment, next_of}
+use Rattle.spool.specs.Headers.{next_of}
 use Rattle.spool.specs.Runs.{HasBlock, bytes_of, joined, next_in}
 use Rattle.spool.specs.Reading.{HasRead, IsUnread}
 use Rattle.spool.specs.declared.place.RunReader.{RunReader}

@@ -72,6 +72,18 @@ pub record GoesOn (told : Option Blocks) (before after : FeedView) : Type 0 wher
   pub readable : IfTold told (λ blocks. (size : ℕ) → count_other_size size (lent before) ≡ 0
       → IsLeftReadable blocks size before.run → IsLeftReadable blocks size after.run)
 
+-- What an advance keeps, whatever it answers: the kept pages, the open page and the lent segments, and of the run, what was
+-- left. No block is left that wasn't left before.
+pub record KeepsPages (told : Option Blocks) (before after : FeedView) : Type 0 where
+  pub room : after.room ≡ before.room
+  pub reach : after.reach ≡ before.reach
+  pub kept : kept_in after ≡ kept_in before
+  pub open_page : open_page_in after ≡ open_page_in before
+  pub weights : (h : ℕ → ℕ → ℕ) → segment_sum h (lent after) ≡ segment_sum h (lent before)
+  pub among : IfTold told (λ blocks. (block : ℕ) → HasBlockLeft blocks after.run block → HasBlockLeft blocks before.run block)
+  pub readable : IfTold told (λ blocks. (size : ℕ) → count_other_size size (lent before) ≡ 0
+      → IsLeftReadable blocks size before.run → IsLeftReadable blocks size after.run)
+
 -- Some records are known to be left, where the disk tells.
 abbrev pub IsKnown : Option Blocks → FeedView → Type 0
 IsKnown told f = IfTold told (λ blocks. (rows : List (List ℕ)) × HasLeft blocks f rows)

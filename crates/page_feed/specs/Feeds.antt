@@ -75,6 +75,11 @@ abbrev pub block_of : Option RunReader → ℕ
 block_of None = 0
 block_of (Some run) = run.block
 
+-- The same, and this block where no run is read.
+abbrev pub block_or : Option RunReader → (other : ℕ) → ℕ
+block_or None other = other
+block_or (Some run) other = run.block
+
 -- These records are left: the unread bytes are theirs, framed, none touches more pages than the feed's reach, and the
 -- run's pages stand on the disk, as long as each of the lent segments.
 pub record HasLeft (blocks : Blocks) (f : FeedView) (rows : List (List ℕ)) : Type 0 where

@@ -1,11 +1,9 @@
-ghost use Rattle.std.specs.Prelude.{◌≡◌, ◌↔◌, ℕ, ◌<◌, ◌≤◌, true, false, [], List, None, Ok, IfOk, IsOk, IsErrOf, MatchResult, is_some, length};
+ghost use Rattle.std.specs.Prelude.{◌≡◌, ◌↔◌, ℕ, ◌<◌, ◌≤◌, true, false, [], List, None, Ok, IfOk, IsOk, IsErrOf, MatchResult, is_some};
 ghost use Rattle.flow_outside.specs.Causes.{HasStreamCause};
 ghost use Rattle.flow_outside.specs.Told.{IfTold};
-ghost use Rattle.paged_view.specs.Reading.{HasRecord};
 ghost use Rattle.paged_view.specs.Streams.{Advances};
-ghost use Rattle.segment_core.specs.Segments.{count_other_size, segment_sum};
-ghost use Rattle.page_feed.specs.Feeding.{GoesOn, IsKnown, IsStuck, pages_to_give};
-ghost use Rattle.page_feed.specs.Feeds.{HasBlockLeft, HasLeft, IsLeftReadable, IsStarted, block_of, kept_in, open_page_in, lent, most_left};
+ghost use Rattle.page_feed.specs.Feeding.{KeepsPages};
+ghost use Rattle.page_feed.specs.Feeds.{HasLeft, IsStarted, block_of, most_left};
 
 use crate::feed::Feed;
 use flow_outside::failure::StreamFault;
@@ -19,32 +17,21 @@ impl Feed {
     /// that was read last, only over a disk that doesn't tell. After either no record is shown.
     pub fn advance<D: Spill>(&mut self, disk: &mut D) -> Result<bool, StreamFault>
         requires started { IsStarted self.old }
-        requires known { IfTold (D.told disk.old) (λ blocks. (rows : List (List ℕ)) × HasLeft blocks self.old rows) }
-        ensures started { IsStarted self.new }
+        requires known { IfTold (D.told disk.old)
+            (λ blocks. (rows : List (List ℕ)) × HasLeft blocks self.old rows) }
         ensures rows { IfOk result (λ more. IfTold (D.told disk.old) (λ blocks. (rows : List (List ℕ)) →
             HasLeft blocks self.old rows → Advances rows more self.new.shown (HasLeft blocks self.new))) }
-        ensures shows { MatchResult result
+        ensures shows { IsStarted self.new × MatchResult result
             (λ more. is_some self.new.shown ≡ more)
             (λ _. self.new.shown ≡ None) }
-        ensures later { most_left self.new ≤ most_left self.old }
-        ensures falls { result ≡ Ok true → most_left self.new < most_left self.old }
-        ensures kept { kept_in self.new ≡ kept_in self.old }
-        ensures open_page { open_page_in self.new ≡ open_page_in self.old }
-        ensures lent { (h : ℕ → ℕ → ℕ) → segment_sum h (lent self.new) ≡ segment_sum h (lent self.old) }
-        ensures own { (self.new.room ≡ self.old.room) × (self.new.reach ≡ self.old.reach) }
-        ensures among { IfTold (D.told disk.old) (λ blocks. (block : ℕ) →
-            HasBlockLeft blocks self.new.run block → HasBlockLeft blocks self.old.run block) }
-        ensures readable { IfTold (D.told disk.old) (λ blocks. (size : ℕ) →
-            count_other_size size self.old.blank ≡ 0 → count_other_size size (lent self.old) ≡ 0 →
-            IsLeftReadable blocks size self.old.run → IsLeftReadable blocks size self.new.run) }
-        ensures tells { D.told disk.new ≡ D.told disk.old }
-        ensures counted { D.given disk.new ≡ D.given disk.old }
-        ensures cause { HasStreamCause (D.fault_count disk.old) (D.fault_count disk.new)
-            (D.told disk.old) result }
-        ensures damaged { (block : ℕ) → IsErrOf result (StreamFault.Damaged block) →
-            block ≡ block_of self.new.run }
-        ensures quiet { self.old.run ≡ None →
-            (disk.new ≡ disk.old) × ((self.new.run ≡ None) × (IsErrOf result StreamFault.Spill → ⊥)) }
+        ensures shorter { (most_left self.new ≤ most_left self.old)
+            × (result ≡ Ok true → most_left self.new < most_left self.old) }
+        ensures keeps { KeepsPages (D.told disk.old) self.old self.new }
+        ensures cause { HasStreamCause (D.fault_count disk.old) (D.fault_count disk.new) (D.told disk.old) result
+            × ((block : ℕ) → IsErrOf result (StreamFault.Damaged block) → block ≡ block_of self.new.run) }
+        ensures disk { (D.told disk.new ≡ D.told disk.old) × (D.given disk.new ≡ D.given disk.old)
+            × (self.old.run ≡ None →
+            (disk.new ≡ disk.old) × ((self.new.run ≡ None) × (IsErrOf result StreamFault.Spill → ⊥))) }
     {
         'pages: loop {
             if self.show_next() {
@@ -63,7 +50,8 @@ impl Feed {
     fn end_of_text(&self) -> Result<bool, StreamFault>
         ensures end { IsOk result ↔ (self.now.reader.text ≡ []) }
         ensures none { IfOk result (λ more. more ≡ false) }
-        ensures damaged { (block : ℕ) → IsErrOf result (StreamFault.Damaged block) → block ≡ block_of self.now.run }
+        ensures damaged { (block : ℕ) → IsErrOf result (StreamFault.Damaged block) →
+            block ≡ block_of self.now.run }
         ensures read { IsErrOf result StreamFault.Spill → ⊥ }
     {
         if self.reader.is_read_out() {

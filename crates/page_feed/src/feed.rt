@@ -1,6 +1,6 @@
-ghost use Rattle.std.specs.Prelude.{◌≡◌, ℕ, ◌+◌, ◌≤◌, [], ◌++◌, Option, IfOk, option_map, length, vec_len, vec_capacity};
+ghost use Rattle.std.specs.Prelude.{◌≡◌, ◌≤◌, [], Option, IfOk, option_map, vec_len, vec_capacity};
 ghost use Rattle.paged_view.specs.Seen.{seen_in};
-ghost use Rattle.page_feed.specs.Feeds.{block_of, held, stopped};
+ghost use Rattle.page_feed.specs.Feeds.{block_of, block_or, held, stopped};
 
 use crate::lists::{end_reader, reserve, reserve_reader};
 use flow_outside::failure::Memory;
@@ -108,6 +108,16 @@ impl Feed {
         }
     }
 
+    /// The block of the page of the run that was read last, and this one where no run is read.
+    pub fn block_or(&self, other: u64) -> u64
+        ensures { result ≡ block_or self.now.run other }
+    {
+        match &self.run {
+            Some(run) => run.block(),
+            None => other,
+        }
+    }
+
     /// Ends a feed that holds no segment.
     pub fn end(self)
         requires { held self ≡ [] }
@@ -135,9 +145,12 @@ impl Feed {
 
 // What a feed has beside its lists of kept pages.
 fn open_rest(alloc: Global, reach: u32) -> Result<(PageReader, Vec<Segment>, Vec<Segment>), Memory>
-    ensures reader { IfOk result (λ rest. rest.0 ≡ record { room = reach; pages = []; head = []; text = [] }) }
-    ensures open_page { IfOk result (λ rest. (rest.1.items ≡ []) × (vec_len rest.1 ≡ 0) × (1 ≤ vec_capacity rest.1)) }
-    ensures blank { IfOk result (λ rest. (rest.2.items ≡ []) × (vec_len rest.2 ≡ 0) × (reach ≤ vec_capacity rest.2)) }
+    ensures reader { IfOk result
+        (λ rest. rest.0 ≡ record { room = reach; pages = []; head = []; text = [] }) }
+    ensures open_page { IfOk result
+        (λ rest. (rest.1.items ≡ []) × (vec_len rest.1 ≡ 0) × (1 ≤ vec_capacity rest.1)) }
+    ensures blank { IfOk result
+        (λ rest. (rest.2.items ≡ []) × (vec_len rest.2 ≡ 0) × (reach ≤ vec_capacity rest.2)) }
 {
     let (open_page, blank) = reserve(alloc, 1, reach)?;
     match reserve_reader(alloc, reach) {

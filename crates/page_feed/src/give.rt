@@ -2,9 +2,8 @@ ghost use Rattle.std.specs.Prelude.{◌≡◌, ◌↔◌, ℕ, ◌+◌, ◌<◌,
 ghost use Rattle.flow_outside.specs.Blocks.{Blocks};
 ghost use Rattle.flow_outside.specs.Causes.{HasStreamCause};
 ghost use Rattle.flow_outside.specs.Told.{IfTold};
-ghost use Rattle.paged_view.specs.Pages.{used_bytes};
+ghost use Rattle.paged_view.specs.Pages.{used_bytes, IsSameSegment};
 ghost use Rattle.paged_view.specs.Reading.{HasRecord, first_record, moved};
-ghost use Rattle.spool.specs.Headers.{IsSameSegment};
 ghost use Rattle.page_feed.specs.Feeding.{GoesOn, IsFed, IsGivenOut, IsKnown, IsPutAway, PutsAway, pages_to_give};
 ghost use Rattle.page_feed.specs.Feeds.{HasBlockLeft, IsLeftReadable, IsStarted, block_of, pages_left, pages_to_read};
 
@@ -97,7 +96,8 @@ impl Feed {
             (D.told disk.old) result }
         ensures damaged { (block : ℕ) → IsErrOf result (StreamFault.Damaged block) →
             block ≡ block_of self.new.run }
-        ensures quiet { self.old.run ≡ None → (disk.new ≡ disk.old) × ((self.new.run ≡ None) × (is_ok result ≡ true)) }
+        ensures quiet { self.old.run ≡ None → (disk.new ≡ disk.old) ×
+            ((self.new.run ≡ None) × (is_ok result ≡ true)) }
     {
         if self.is_full() {
             return Ok(false);
@@ -195,7 +195,8 @@ impl Feed {
 
     // Reads the next page of the run: false where there is none.
     fn read_page<D: Spill>(&mut self, disk: &mut D, page: &mut Segment) -> Result<bool, StreamFault>
-        requires { IfTold (D.told disk.old) (λ blocks. IsLeftReadable blocks (length page.old.bytes) self.old.run) }
+        requires { IfTold (D.told disk.old)
+            (λ blocks. IsLeftReadable blocks (length page.old.bytes) self.old.run) }
         ensures others { self.new ≡ record self.old { run = self.new.run } }
         ensures cause { HasStreamCause (D.fault_count disk.old) (D.fault_count disk.new) (D.told disk.old) result }
         ensures tells { D.told disk.new ≡ D.told disk.old }
@@ -285,7 +286,8 @@ fn read_next<D: Spill>(
     ensures later { pages_to_read run.new ≤ pages_to_read run.old }
     ensures pages { result ≡ Ok true → IfTold (D.told disk.old)
         (λ blocks. pages_left blocks run.old ≡ page.new.bytes ∷ pages_left blocks run.new) }
-    ensures readable { IfTold (D.told disk.old) (λ blocks. IsLeftReadable blocks (length page.old.bytes) run.new) }
+    ensures readable { IfTold (D.told disk.old)
+        (λ blocks. IsLeftReadable blocks (length page.old.bytes) run.new) }
     ensures among { IfTold (D.told disk.old) (λ blocks. (block : ℕ) →
         HasBlockLeft blocks run.new block → HasBlockLeft blocks run.old block) }
     ensures spill { IsErrOf result StreamFault.Spill → run.new ≡ run.old }

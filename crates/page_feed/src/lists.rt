@@ -12,8 +12,10 @@ pub(crate) fn reserve(
     first: u32,
     second: u32,
 ) -> Result<(Vec<Segment>, Vec<Segment>), Memory>
-    ensures first { IfOk result (λ lists. (lists.0.items ≡ []) × (vec_len lists.0 ≡ 0) × (first ≤ vec_capacity lists.0)) }
-    ensures second { IfOk result (λ lists. (lists.1.items ≡ []) × (vec_len lists.1 ≡ 0) × (second ≤ vec_capacity lists.1)) }
+    ensures first { IfOk result
+        (λ lists. (lists.0.items ≡ []) × (vec_len lists.0 ≡ 0) × (first ≤ vec_capacity lists.0)) }
+    ensures second { IfOk result
+        (λ lists. (lists.1.items ≡ []) × (vec_len lists.1 ≡ 0) × (second ≤ vec_capacity lists.1)) }
 {
     let one = Vec::with_capacity(alloc, first as usize)?;
     match Vec::with_capacity(alloc, second as usize) {
@@ -66,7 +68,8 @@ pub(crate) fn lend(purse: &mut Purse, count: u32, to: &mut Vec<Segment>)
     ensures capacity { vec_capacity to.new ≡ vec_capacity to.old }
     ensures room { purse.new.room ≡ purse.old.room }
     ensures segments { (h : ℕ → ℕ → ℕ) →
-        segment_sum h purse.new.pages + segment_sum h to.new.items ≡ segment_sum h purse.old.pages + segment_sum h to.old.items }
+        segment_sum h purse.new.pages + segment_sum h to.new.items
+        ≡ segment_sum h purse.old.pages + segment_sum h to.old.items }
 {
     for _ in 0..count {
         match purse.take() {
@@ -118,7 +121,8 @@ pub(crate) fn withdraw_lent(reader: &mut PageReader, count: usize, purse: &mut P
     ensures purse_room { purse.new.room ≡ purse.old.room }
     ensures count { length purse.new.pages ≡ length purse.old.pages + count }
     ensures segments { (h : ℕ → ℕ → ℕ) →
-        segment_sum h purse.new.pages ≡ segment_sum h purse.old.pages + segment_sum h (take count reader.old.pages) }
+        segment_sum h purse.new.pages
+        ≡ segment_sum h purse.old.pages + segment_sum h (take count reader.old.pages) }
 {
     for _ in 0..count {
         match reader.withdraw() {

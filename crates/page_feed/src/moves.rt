@@ -18,8 +18,7 @@ impl Feed {
         purse: &mut Purse,
     )
         requires stopped { self.old ≡ stopped self.old.room self.old.reach }
-        requires fits { length kept.old.items ≤ self.old.room }
-        requires one { length open_page.old.items ≤ 1 }
+        requires fits { (length kept.old.items ≤ self.old.room) × (length open_page.old.items ≤ 1) }
         requires supply { self.old.reach ≤ length purse.old.pages }
         ensures begins { self.new ≡ record (stopped self.old.room self.old.reach) {
           ahead = kept.old.items;
@@ -28,13 +27,11 @@ impl Feed {
           blank = self.new.blank;
         } }
         ensures started { IsStarted self.new }
-        ensures kept { kept.new.items ≡ [] }
-        ensures open_page { open_page.new.items ≡ [] }
-        ensures kept_capacity { vec_capacity kept.new ≡ vec_capacity kept.old }
-        ensures last_capacity { vec_capacity open_page.new ≡ vec_capacity open_page.old }
-        ensures room { purse.new.room ≡ purse.old.room }
-        ensures segments { (h : ℕ → ℕ → ℕ) →
-            segment_sum h purse.new.pages + segment_sum h self.new.blank ≡ segment_sum h purse.old.pages }
+        ensures emptied { (kept.new.items ≡ []) × (open_page.new.items ≡ []) }
+        ensures capacities { (vec_capacity kept.new ≡ vec_capacity kept.old)
+            × (vec_capacity open_page.new ≡ vec_capacity open_page.old) }
+        ensures purse { (purse.new.room ≡ purse.old.room) × ((h : ℕ → ℕ → ℕ) →
+            segment_sum h purse.new.pages + segment_sum h self.new.blank ≡ segment_sum h purse.old.pages) }
     {
         turn_over(kept, &mut self.ahead);
         turn_over(open_page, &mut self.open_page);
@@ -45,14 +42,14 @@ impl Feed {
     /// Gives all of its segments back, whether it was started or not: the kept pages behind those of
     /// `kept`, in order, the open page behind those of `open_page`, and the lent ones to the purse.
     pub fn stop(&mut self, kept: &mut Vec<Segment>, open_page: &mut Vec<Segment>, purse: &mut Purse)
-        requires kept_room { length kept.old.items + length (kept_in self.old) ≤ vec_capacity kept.old }
-        requires last_room { length open_page.old.items + length (open_page_in self.old) ≤ vec_capacity open_page.old }
+        requires space { (length kept.old.items + length (kept_in self.old) ≤ vec_capacity kept.old)
+            × (length open_page.old.items + length (open_page_in self.old) ≤ vec_capacity open_page.old) }
         requires room { length purse.old.pages + length (lent self.old) ≤ purse.old.room }
         ensures kept { kept.new.items ≡ kept.old.items ++ kept_in self.old }
         ensures open_page { open_page.new.items ≡ open_page.old.items ++ open_page_in self.old }
         ensures stopped { self.new ≡ stopped self.old.room self.old.reach }
-        ensures kept_capacity { vec_capacity kept.new ≡ vec_capacity kept.old }
-        ensures last_capacity { vec_capacity open_page.new ≡ vec_capacity open_page.old }
+        ensures capacities { (vec_capacity kept.new ≡ vec_capacity kept.old)
+            × (vec_capacity open_page.new ≡ vec_capacity open_page.old) }
         ensures room { purse.new.room ≡ purse.old.room }
         ensures segments { (h : ℕ → ℕ → ℕ) →
             segment_sum h purse.new.pages ≡ segment_sum h purse.old.pages + segment_sum h (lent self.old) }

@@ -1,6 +1,5 @@
-ghost use Rattle.std.specs.Prelude.{◌≡◌, ℕ, ◌+◌, ◌≤◌, [], List, None, IfOk, length, option_map};
+ghost use Rattle.std.specs.Prelude.{◌≡◌, ℕ, ◌+◌, ◌≤◌, [], List, IfOk, length};
 ghost use Rattle.flow_outside.specs.Blocks.{Blocks};
-ghost use Rattle.paged_view.specs.Seen.{seen_in};
 ghost use Rattle.page_feed.specs.Feeds.{HasLeft, IsStarted, block_of, lent, stopped};
 ghost use Rattle.page_feed.specs.RunStreams.{HoldsRun};
 ghost use Rattle.segment_core.specs.Segments.{count_other_size, segment_sum};
@@ -27,7 +26,7 @@ pub struct RunStream {
 }
 
 impl Model for RunStream {
-    ghost use Rattle.std.specs.Prelude.{vec_len, vec_capacity};
+    ghost use Rattle.std.specs.Prelude.{vec_len};
     ghost use Rattle.page_feed.specs.Feeds.{FeedView};
     ghost use Rattle.page_feed.specs.RunStreams.{IsRunStream};
 
@@ -59,7 +58,8 @@ impl RunStream {
         requires supply { self.old.reach ≤ length purse.old.pages }
         ensures started { IsStarted self.new }
         ensures left { (blocks : Blocks) (size : ℕ) (rows : List (List ℕ)) →
-            count_other_size size purse.old.pages ≡ 0 → HoldsRun blocks size self.old.reach run.now rows → HasLeft blocks self.new rows }
+            count_other_size size purse.old.pages ≡ 0 →
+            HoldsRun blocks size self.old.reach run.now rows → HasLeft blocks self.new rows }
         ensures own { (self.new.room ≡ self.old.room) × (self.new.reach ≡ self.old.reach) }
         ensures room { purse.new.room ≡ purse.old.room }
         ensures segments { (h : ℕ → ℕ → ℕ) →

@@ -1,4 +1,5 @@
 pub mod PageLemmas
+pub mod FillLemmas
 pub mod WritingLemmas
 pub mod SpanLemmas
 pub mod RecordLemmas

@@ -1,5 +1,5 @@
 -- Pages: segments that hold framed records behind a header. The rule is this project's own.
-use Rattle.std.specs.Prelude.{ℕ, List, [], take, drop, slice_index_or}
+use Rattle.std.specs.Prelude.{◌≡◌, ℕ, ◌<◌, List, [], length, take, drop, slice_index_or}
 use Rattle.std.specs.List.{flat_map}
 use Rattle.std.specs.Int.{from_be_bytes, w32}
 use Rattle.segment_core.specs.Segments.{SegmentView}
@@ -33,3 +33,13 @@ no_page = record { id = 0; bytes = [] }
 -- the page at a place from 0
 abbrev pub page_at : List SegmentView → ℕ → SegmentView
 page_at ps i = slice_index_or ps i no_page
+
+-- The segment is the one that it was, with as many bytes.
+pub record IsSameSegment (old new : SegmentView) : Type 0 where
+  pub id : new.id ≡ old.id
+  pub len : length new.bytes ≡ length old.bytes
+
+-- The page's header says that so many of its bytes are used, and some are.
+pub record HasUsed (count : ℕ) (page : SegmentView) : Type 0 where
+  pub is : used page ≡ count
+  pub some : 0 < used page

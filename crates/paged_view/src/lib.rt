@@ -6,6 +6,7 @@
 //! records across any number of pages included, and no call takes memory or loses a segment.
 #![tactic(auto)]
 
+pub mod fill;
 pub mod laws;
 pub mod need_page;
 pub mod order;

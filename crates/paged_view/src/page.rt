@@ -1,5 +1,5 @@
 ghost use Rattle.std.specs.Prelude.{◌≡◌, ◌+◌, ◌^◌, ◌<◌, ◌≤◌, length};
-ghost use Rattle.paged_view.specs.Pages.{body, used, used_bytes};
+ghost use Rattle.paged_view.specs.Pages.{body, used, used_bytes, IsSameSegment};
 ghost use Rattle.paged_view.specs.Writing.{written};
 
 use segment_core::Segment;
@@ -29,7 +29,7 @@ pub fn used_bytes(page: &Segment) -> &[u8]
 }
 
 // Writes bytes over those of a page from place `at` on.
-pub(super) fn write_at(page: &mut Segment, at: usize, bytes: &[u8])
+pub(crate) fn write_at(page: &mut Segment, at: usize, bytes: &[u8])
     requires { at + length bytes.now ≤ length page.old.bytes }
     ensures { page.new ≡ written page.old at bytes.now }
 {
@@ -37,12 +37,11 @@ pub(super) fn write_at(page: &mut Segment, at: usize, bytes: &[u8])
 }
 
 // Says in a page's header how many bytes are used.
-pub(super) fn set_used(page: &mut Segment, count: usize)
+pub(crate) fn set_used(page: &mut Segment, count: usize)
     requires { count < 2 ^ 32 }
     ensures used { used page.new ≡ count }
     ensures body { body page.new ≡ body page.old }
-    ensures id { page.new.id ≡ page.old.id }
-    ensures len { length page.new.bytes ≡ length page.old.bytes }
+    ensures same { IsSameSegment page.old page.new }
 {
     let _len = page.bytes().len();
     write_at(page, 0, &(count as u32).to_be_bytes());

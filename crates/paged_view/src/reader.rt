@@ -143,7 +143,8 @@ impl PageReader {
         ensures head { OnSome result (self.new.head ≡ []) }
         ensures room { self.new.room ≡ self.old.room }
         ensures segments { (h : ℕ → ℕ → ℕ) →
-            segment_sum h self.new.pages + segment_sum h (option_to_list result) ≡ segment_sum h self.old.pages }
+            segment_sum h self.new.pages + segment_sum h (option_to_list result)
+            ≡ segment_sum h self.old.pages }
     {
         let place = place_at(&self.pages, self.page, self.off + self.pending);
         if place.page == 0 {
@@ -164,7 +165,8 @@ impl PageReader {
         ensures head { self.new.head ≡ [] }
         ensures room { self.new.room ≡ self.old.room }
         ensures segments { (h : ℕ → ℕ → ℕ) →
-            segment_sum h self.new.pages + segment_sum h (option_to_list result) ≡ segment_sum h self.old.pages }
+            segment_sum h self.new.pages + segment_sum h (option_to_list result)
+            ≡ segment_sum h self.old.pages }
     {
         self.page = 0;
         self.off = 0;

@@ -53,7 +53,8 @@ pub trait RecordStream<D: Spill> {
         ensures segments { (h : ℕ → ℕ → ℕ) → segment_sum h (held self.new) ≡ segment_sum h (held self.old) }
         ensures tells { D.told disk.new ≡ D.told disk.old }
         ensures counted { D.given disk.new ≡ D.given disk.old }
-        ensures damaged { (block : ℕ) → IsErrOf result (StreamFault.Damaged block) → block ≡ block_read self.new }
+        ensures damaged { (block : ℕ) → IsErrOf result (StreamFault.Damaged block) →
+            block ≡ block_read self.new }
         ensures cause { HasStreamCause (D.fault_count disk.old) (D.fault_count disk.new)
             (D.told disk.old) result };
 

@@ -1,7 +1,7 @@
 ghost use Rattle.std.specs.Prelude.{◌≡◌, ℕ, ◌+◌, ◌-◌, ◌^◌, ◌<◌, ◌≤◌, ◌↔◌, min, [], ◌∷◌, ◌++◌, length, take, drop, vec_len, vec_capacity, slice_set, IsTrue, IsSome, IfSome, OnSome, IfNone, IsErr, OnOk, OnErr, is_some, option_to_list};
 ghost use Rattle.flow_types.specs.Records.{framed};
 ghost use Rattle.segment_core.specs.Segments.{segment_sum};
-ghost use Rattle.paged_view.specs.Pages.{body, bodies, used, all_used_bytes, page_at};
+ghost use Rattle.paged_view.specs.Pages.{body, bodies, used, all_used_bytes, page_at, HasUsed};
 ghost use Rattle.paged_view.specs.Writing.{free, has_full, text_in, written};
 
 use crate::need_page::NeedPage;
@@ -153,13 +153,13 @@ impl PageWriter {
         ensures some { is_some result ≡ has_full self.old.text self.old.pages }
         ensures none { IfNone result (self.new ≡ self.old) }
         ensures text { self.old.text ≡ all_used_bytes (option_to_list result) ++ self.new.text }
-        ensures used { IfSome result (λ p. used p ≡ length (body p)) }
-        ensures holds { IfSome result (λ p. 0 < used p) }
+        ensures used { IfSome result (λ p. HasUsed (length (body p)) p) }
         ensures rest { OnSome result (self.new.pages ≡ drop 1 self.old.pages) }
         ensures fits { length self.old.pages ≤ self.old.room }
         ensures room { self.new.room ≡ self.old.room }
         ensures segments { (h : ℕ → ℕ → ℕ) →
-            segment_sum h self.new.pages + segment_sum h (option_to_list result) ≡ segment_sum h self.old.pages }
+            segment_sum h self.new.pages + segment_sum h (option_to_list result)
+            ≡ segment_sum h self.old.pages }
     {
         let space = body_of(self.pages.first()?).len();
         if self.full == 0 {
@@ -176,13 +176,13 @@ impl PageWriter {
         ensures some { IsSome result ↔ (0 < length self.old.text) }
         ensures none { IfNone result (self.new ≡ self.old) }
         ensures text { self.old.text ≡ all_used_bytes (option_to_list result) ++ self.new.text }
-        ensures used { IfSome result (λ p. used p ≡ min (length (body p)) (length self.old.text)) }
-        ensures holds { IfSome result (λ p. 0 < used p) }
+        ensures used { IfSome result (λ p. HasUsed (min (length (body p)) (length self.old.text)) p) }
         ensures rest { OnSome result (self.new.pages ≡ drop 1 self.old.pages) }
         ensures fits { length self.old.pages ≤ self.old.room }
         ensures room { self.new.room ≡ self.old.room }
         ensures segments { (h : ℕ → ℕ → ℕ) →
-            segment_sum h self.new.pages + segment_sum h (option_to_list result) ≡ segment_sum h self.old.pages }
+            segment_sum h self.new.pages + segment_sum h (option_to_list result)
+            ≡ segment_sum h self.old.pages }
     {
         let space = body_of(self.pages.first()?).len();
         if self.full > 0 {

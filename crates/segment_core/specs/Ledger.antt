@@ -1,7 +1,7 @@
 -- The ledger: of n segments with the ids 0 to n - 1 each stands exactly once among all holders. The
 -- rule is this project's own.
-use Rattle.std.specs.Prelude.{◌≡◌, ℕ, ◌+◌, ◌<◌, ◌≤◌, true, List, ◌++◌, sum_by}
-use Rattle.segment_core.specs.Segments.{SegmentView, PoolView, is_segment_size, segment_sum, copies, count_other_size}
+use Rattle.std.specs.Prelude.{◌≡◌, ℕ, ◌+◌, ◌<◌, ◌≤◌, true, List, [], ◌∷◌, ◌++◌, reverse, sum_by}
+use Rattle.segment_core.specs.Segments.{SegmentView, PoolView, PurseView, is_segment_size, segment_sum, copies, count_other_size}
 use Rattle.segment_core.specs.declared.pool.TheConstants.{MOST_SEGMENTS}
 
 -- What all holders weigh together. A holder is whatever has segments, seen as the list of its pages.
@@ -43,6 +43,13 @@ pub record MayReturn (pool : PoolView) (pages : List SegmentView) : Type 0 where
   pub sized : count_other_size pool.size pages ≡ 0
   pub known : (id : ℕ) → pool.total ≤ id → copies id pages ≡ 0
   pub once : (id : ℕ) → copies id pool.free + copies id pages ≤ 1
+
+-- Segments went out of a pool into a purse: those that were free are those that still are and, in the other order, the
+-- purse's. Together they weigh what was free, and every ledger still holds.
+pub record Leases (old new : PoolView) (purse : PurseView) : Type 0 where
+  pub moved : old.free ≡ new.free ++ reverse purse.pages
+  pub segments : (h : ℕ → ℕ → ℕ) → segment_sum h new.free + segment_sum h purse.pages ≡ segment_sum h old.free
+  pub ledger : KeepsLedger (old.free ∷ []) (new.free ∷ purse.pages ∷ [])
 
 -- What the law speaks of: the holders of a ledger before and after a change.
 pub record Change : Type 0 where

@@ -16,6 +16,3 @@ pub use ledger::ledger_stays;
 pub use pool::{MOST_SEGMENTS, Pool};
 pub use purse::Purse;
 pub use segment::{LARGEST_SIZE, SMALLEST_SIZE, Segment};
-
-#[cfg(test)]
-mod tests;

@@ -1,6 +1,6 @@
 ghost use Rattle.std.specs.Prelude.{◌≡◌, ℕ, ◌+◌, ◌<◌, ◌≤◌, ◌⊎◌, ◌↔◌, true, false, [], ◌∷◌, ◌++◌, length, reverse, vec_len, vec_capacity, IsOk, IfOk, OnOk, OnErr, IsErrOf};
 ghost use Rattle.segment_core.specs.Segments.{is_segment_size, segment_sum, blank_pages};
-ghost use Rattle.segment_core.specs.Ledger.{IsLedger, KeepsLedger, MayReturn};
+ghost use Rattle.segment_core.specs.Ledger.{IsLedger, KeepsLedger, Leases, MayReturn};
 
 use super::{LARGEST_SIZE, LeaseFault, PoolFault, Purse, SMALLEST_SIZE, Segment};
 use std::alloc::{AllocError, Global};
@@ -77,18 +77,11 @@ impl Pool {
             IsErrOf result (LeaseFault.Short free) ↔ ((free ≡ length self.old.free) × (free < n)) }
         ensures none { n ≡ 0 → IsOk result }
         ensures err { OnErr result (self.new ≡ self.old) }
-
-        ensures room { IfOk result (λ p. p.room ≡ n) }
-        ensures count { IfOk result (λ p. length p.pages ≡ n) }
-        ensures moved { IfOk result (λ p. self.old.free ≡ self.new.free ++ reverse p.pages) }
+        ensures full { IfOk result (λ p. (p.room ≡ n) × (length p.pages ≡ n)) }
+        ensures leases { IfOk result (Leases self.old self.new) }
         ensures may_return { IfOk result (λ p. MayReturn self.new p.pages) }
         ensures total { self.new.total ≡ self.old.total }
         ensures size { self.new.size ≡ self.old.size }
-
-        ensures segments { IfOk result (λ p. (h : ℕ → ℕ → ℕ) →
-            segment_sum h self.new.free + segment_sum h p.pages ≡ segment_sum h self.old.free) }
-        ensures ledger { IfOk result (λ p.
-            KeepsLedger (self.old.free ∷ []) (self.new.free ∷ p.pages ∷ [])) }
     {
         let free = self.free();
         if free < n {

@@ -4,3 +4,5 @@ pub mod HeaderLemmas
 pub mod PushLemmas
 pub mod ReadLemmas
 pub mod DamageLemmas
+pub mod GrowthLemmas
+pub mod SpillLemmas

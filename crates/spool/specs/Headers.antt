@@ -35,8 +35,3 @@ pub record IsSound (number : ℕ) (page : List ℕ) : Type 0 where
   pub some : 0 < used (as_page page)
   pub within : used (as_page page) ≤ length (body (as_page page))
   pub numbered : number_of page ≡ header_number number
-
--- The segment is the one that it was, with as many bytes.
-pub record IsSameSegment (old new : SegmentView) : Type 0 where
-  pub id : new.id ≡ old.id
-  pub len : length new.bytes ≡ length old.bytes

@@ -1,9 +1,9 @@
-ghost use Rattle.std.specs.Prelude.{◌≡◌, ℕ, Option, IsErrOf, OnOk, length};
+ghost use Rattle.std.specs.Prelude.{◌≡◌, ℕ, IsErrOf, OnOk, length};
 ghost use Rattle.flow_outside.specs.Blocks.{BothTold};
 ghost use Rattle.flow_outside.specs.Causes.{HasStreamCause};
 ghost use Rattle.flow_outside.specs.Told.{IfTold};
 ghost use Rattle.spool.specs.Changes.{IsFreed, IsPartlyFreed, ForeignBlocksUnchanged};
-ghost use Rattle.spool.specs.Headers.{IsSameSegment};
+ghost use Rattle.paged_view.specs.Pages.{IsSameSegment};
 ghost use Rattle.spool.specs.Reading.{IsDamagedAt};
 ghost use Rattle.spool.specs.Runs.{IsRun};
 
@@ -27,7 +27,8 @@ pub fn discard<D: Spill>(run: Run, disk: &mut D, page: &mut Segment) -> Result<(
     ensures freed { OnOk result (BothTold (D.told disk.old) (D.told disk.new) (IsFreed run)) }
     ensures partly { BothTold (D.told disk.old) (D.told disk.new) (IsPartlyFreed run) }
     ensures others { BothTold (D.told disk.old) (D.told disk.new) (ForeignBlocksUnchanged run) }
-    ensures damaged { (block : ℕ) → IsErrOf result (StreamFault.Damaged block) → IsDamagedAt run block page.new.bytes }
+    ensures damaged { (block : ℕ) → IsErrOf result (StreamFault.Damaged block) →
+        IsDamagedAt run block page.new.bytes }
 {
     let mut reader = RunReader::start(&run);
     'pages: loop {

@@ -1,6 +1,6 @@
-ghost use Rattle.std.specs.Prelude.{◌≡◌, ◌↔◌, ℕ, ◌+◌, ◌<◌, ◌≤◌, IsTrue, length};
-ghost use Rattle.paged_view.specs.Pages.{body, used_bytes, used};
-ghost use Rattle.spool.specs.Headers.{IsSound, IsSameSegment, as_page, header_number, next_of, number_of, stamped, with_header};
+ghost use Rattle.std.specs.Prelude.{◌≡◌, ◌↔◌, ◌<◌, ◌≤◌, IsTrue, length};
+ghost use Rattle.paged_view.specs.Pages.{body, used_bytes, used, IsSameSegment};
+ghost use Rattle.spool.specs.Headers.{IsSound, as_page, header_number, next_of, number_of, stamped, with_header};
 
 use paged_view::page::HEADER_SIZE;
 use segment_core::Segment;
@@ -65,7 +65,8 @@ pub(crate) fn stamp(page: &mut Segment, number: u64, next: u64)
     ensures same { IsSameSegment page.old page.new }
     ensures text { used_bytes page.new ≡ used_bytes page.old }
     ensures names { next_of page.new.bytes ≡ next }
-    ensures sound { 0 < used page.old → used page.old ≤ length (body page.old) → IsSound number page.new.bytes }
+    ensures sound { 0 < used page.old → used page.old ≤ length (body page.old) →
+        IsSound number page.new.bytes }
 {
     let _len = page.bytes().len();
     write_header(page.bytes_mut(), as_header_number(number), next);

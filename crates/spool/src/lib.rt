@@ -11,4 +11,5 @@ pub mod io;
 mod place;
 pub mod reader;
 pub mod run;
+pub mod spill;
 pub mod writer;

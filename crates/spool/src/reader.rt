@@ -1,8 +1,8 @@
-ghost use Rattle.std.specs.Prelude.{◌≡◌, ◌≢◌, ◌↔◌, ◌<◌, ◌≤◌, ◌∷◌, ◌-◌, ℕ, true, false, Option, Some, Ok, Err, IsErrOf, OnOk, length};
+ghost use Rattle.std.specs.Prelude.{◌≡◌, ◌≢◌, ◌↔◌, ◌<◌, ◌∷◌, ◌-◌, ℕ, true, false, Some, Ok, Err, IsErrOf, OnOk, length};
 ghost use Rattle.flow_outside.specs.Blocks.{Blocks, HoldsPage};
 ghost use Rattle.flow_outside.specs.Causes.{HasCause, HasStreamCause};
 ghost use Rattle.flow_outside.specs.Told.{IfTold};
-ghost use Rattle.spool.specs.Headers.{IsSameSegment};
+ghost use Rattle.paged_view.specs.Pages.{IsSameSegment};
 ghost use Rattle.spool.specs.Reading.{HasRead, IsReadable, IsUnread};
 ghost use Rattle.spool.specs.Runs.{IsRun, pages_at};
 
@@ -19,7 +19,8 @@ impl RunReader {
         ensures at { result.at ≡ run.now.first }
         ensures all { (result.left ≡ run.now.pages) × (result.pages ≡ run.now.pages) }
         ensures none { result.block ≡ 0 }
-        ensures readable { (blocks : Blocks) (size : ℕ) → IsRun blocks size run.now → IsReadable blocks size result }
+        ensures readable { (blocks : Blocks) (size : ℕ) → IsRun blocks size run.now →
+            IsReadable blocks size result }
     {
         RunReader {
             at: run.first,
@@ -46,8 +47,10 @@ impl RunReader {
         ensures read { result ≡ Ok true → IfTold (D.told disk.old)
             (λ blocks. blocks self.old.at ≡ Some (Some page.new.bytes)) }
         ensures pages { result ≡ Ok true → IfTold (D.told disk.old) (λ blocks.
-            pages_at blocks self.old.at self.old.left ≡ page.new.bytes ∷ pages_at blocks self.new.at self.new.left) }
-        ensures readable { IfTold (D.told disk.old) (λ blocks. IsReadable blocks (length page.old.bytes) self.new) }
+            pages_at blocks self.old.at self.old.left
+            ≡ page.new.bytes ∷ pages_at blocks self.new.at self.new.left) }
+        ensures readable { IfTold (D.told disk.old)
+            (λ blocks. IsReadable blocks (length page.old.bytes) self.new) }
         ensures spill { IsErrOf result StreamFault.Spill → self.new ≡ self.old }
         ensures damaged { (block : ℕ) → IsErrOf result (StreamFault.Damaged block) →
             IsUnread self.old self.new page.new.bytes block }
@@ -95,7 +98,8 @@ fn fetch<D: Spill>(disk: &mut D, block: u64, page: &mut Segment) -> Result<(), F
     ensures tells { D.told disk.new ≡ D.told disk.old }
     ensures given { D.given disk.new ≡ D.given disk.old }
     ensures same { IsSameSegment page.old page.new }
-    ensures read { OnOk result (IfTold (D.told disk.old) (λ blocks. blocks block ≡ Some (Some page.new.bytes))) }
+    ensures read { OnOk result
+        (IfTold (D.told disk.old) (λ blocks. blocks block ≡ Some (Some page.new.bytes))) }
 {
     let _len = page.bytes().len();
     disk.get(block, page.bytes_mut())

@@ -1,10 +1,10 @@
-ghost use Rattle.std.specs.Prelude.{◌≡◌, ◌≢◌, ℕ, ◌+◌, ◌^◌, ◌<◌, ◌≤◌, Option, Some, None, IfOk, OnOk, OnErr, length};
+ghost use Rattle.std.specs.Prelude.{◌≡◌, ℕ, ◌+◌, ◌^◌, ◌<◌, ◌≤◌, Some, IfOk, OnOk, OnErr, length};
 ghost use Rattle.flow_outside.specs.Blocks.{BothTold, IsLive, IsGiven, Becomes};
 ghost use Rattle.flow_outside.specs.Causes.{HasCause, Rose};
 ghost use Rattle.flow_outside.specs.Told.{IfTold};
-ghost use Rattle.paged_view.specs.Pages.{body, used_bytes, used};
+ghost use Rattle.paged_view.specs.Pages.{body, used_bytes, used, IsSameSegment};
 ghost use Rattle.spool.specs.Changes.{AllStand, IsAppended, IsKept, IsPushed, IsReady, IsWithdrawn, LeavesOpen};
-ghost use Rattle.spool.specs.Headers.{IsSameSegment, IsSound, next_of, stamped};
+ghost use Rattle.spool.specs.Headers.{IsSound, next_of, stamped};
 ghost use Rattle.spool.specs.Runs.{IsWritten};
 
 use crate::header::stamp;
@@ -50,7 +50,8 @@ impl RunWriter {
         requires within { used page.old ≤ length (body page.old) }
         requires live { IfTold (D.told disk.old) (λ blocks. IsLive blocks self.old.end) }
         ensures cause { HasCause (D.fault_count disk.old) (D.fault_count disk.new) result }
-        ensures counted { OnOk result ((self.new.first ≡ self.old.first) × (self.new.pages ≡ self.old.pages + 1)) }
+        ensures counted { OnOk result
+            ((self.new.first ≡ self.old.first) × (self.new.pages ≡ self.old.pages + 1)) }
         ensures stamped { OnOk result (page.new.bytes ≡ stamped page.old.bytes self.old.pages self.new.end) }
         ensures same { IsSameSegment page.old page.new }
         ensures text { used_bytes page.new ≡ used_bytes page.old }

@@ -6,7 +6,7 @@ use Rattle.segment_core.specs.Segments.{PurseView, SegmentView, count_other_size
 use Rattle.segment_core.proofs.Weighing.{segment_sum-cons, segment_sum-push}
 use Rattle.flow_outside.specs.Blocks.{Blocks, BothTold}
 use Rattle.flow_outside.specs.Told.{IfTold}
-use Rattle.spool.specs.Headers.{IsSameSegment}
+use Rattle.paged_view.specs.Pages.{IsSameSegment}
 use Rattle.paged_view.specs.Streams.{Advances, KnowsRows}
 use Rattle.page_feed.specs.Feeds.{HasLeft}
 use Rattle.lot_store.specs.LotCalls.{AppendsRow, IsSupplied, KeepsContents, Reads, Writes}

@@ -1,8 +1,8 @@
-ghost use Rattle.std.specs.Prelude.{◌≡◌, ℕ, ◌+◌, ◌<◌, ◌≤◌, [], ◌∷◌, None, length};
+ghost use Rattle.std.specs.Prelude.{◌≡◌, ℕ, ◌+◌, ◌<◌, ◌≤◌, None, length};
 ghost use Rattle.lot_store.specs.LotCalls.{Writes};
 ghost use Rattle.lot_store.specs.Lots.{empty, held};
 ghost use Rattle.segment_core.specs.Segments.{segment_sum};
-ghost use Rattle.spool.specs.Headers.{IsSameSegment};
+ghost use Rattle.paged_view.specs.Pages.{IsSameSegment};
 
 use crate::lots::rest_and_read;
 use flow_outside::failure::StreamFault;

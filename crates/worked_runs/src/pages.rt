@@ -1,9 +1,8 @@
 ghost use Rattle.std.specs.Prelude.{◌≡◌, ◌≤◌, ◌++◌, ℕ, IfOk, drop, length};
 ghost use Rattle.std.specs.Int.{to_be_bytes, w32};
 ghost use Rattle.flow_outside.specs.Told.{IfTold};
-ghost use Rattle.paged_view.specs.Pages.{used};
+ghost use Rattle.paged_view.specs.Pages.{used, IsSameSegment};
 ghost use Rattle.segment_core.specs.Segments.{segment_sum};
-ghost use Rattle.spool.specs.Headers.{IsSameSegment};
 ghost use Rattle.spool.specs.Ios.{HasSameParts};
 ghost use Rattle.spool.specs.Runs.{IsRun};
 

@@ -1,7 +1,7 @@
 use Rattle.std.proofs.Common.{◌≡◌, ◌≤◌, length}
 use Rattle.flow_outside.specs.Blocks.{BothTold}
 use Rattle.spool.specs.Changes.{IsBeingFreed}
-use Rattle.spool.specs.Headers.{IsSameSegment}
+use Rattle.paged_view.specs.Pages.{IsSameSegment}
 use Rattle.spool.specs.Reading.{HasComeTo, number_at}
 use Rattle.spool.proofs.discard.discard.Given as goal
 

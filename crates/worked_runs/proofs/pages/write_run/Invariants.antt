@@ -1,6 +1,6 @@
 use Rattle.std.proofs.Common.{length}
 use Rattle.flow_outside.specs.Told.{IfTold}
-use Rattle.spool.specs.Headers.{IsSameSegment}
+use Rattle.paged_view.specs.Pages.{IsSameSegment}
 use Rattle.spool.specs.Runs.{IsWritten}
 use Rattle.worked_runs.proofs.pages.write_run.Given as goal
 

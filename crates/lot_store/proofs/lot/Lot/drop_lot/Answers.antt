@@ -10,4 +10,4 @@ returns-clause-preserves g c =
 
 pub returns-clause-empty : goal.returns-clause-empty
 returns-clause-empty g c =
-    lot_emptied c.give_up.new.self _ _ _ (stored_none c.give_up.new.self c.give_up.ensures.empty) c.give_up.ensures.none c.give_up.ensures.own c.give_up.ensures.rest c.give_up.ensures.seat
+    lot_emptied c.give_up.new.self _ _ _ (stored_none c.give_up.new.self c.give_up.ensures.empty) c.give_up.ensures.none c.give_up.ensures.own c.give_up.ensures.rest c.give_up.ensures.seat c.give_up.ensures.forgot

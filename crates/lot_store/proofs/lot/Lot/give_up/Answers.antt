@@ -1,4 +1,5 @@
 use Rattle.std.proofs.Common.{ap, ◌∙◌}
+use Rattle.page_feed.specs.Feeds.{block_or}
 use Rattle.lot_store.specs.Lots.{LotView}
 use Rattle.lot_store.proofs.RestLemmas.{back_fits, lot_keeps_others, lot_of, sound_in, supply_end}
 use Rattle.lot_store.proofs.lot.Lot.give_up.Goals as goal
@@ -17,4 +18,4 @@ drop_lot-requires-clause-sound g c =
 
 pub returns-clause-keeps : goal.returns-clause-keeps
 returns-clause-keeps g c =
-    lot_keeps_others _ _ c.args.self.now (lot_of c.drop_lot.new.self c.self.inside.feed) c.self.inside.stored c.args.purse.now.pages c.stop.new.purse.pages c.drop_lot.new.purse.pages _ _ (ap (λ (v : LotView). v.stored) c.self.view_is ∙ c.stop.ensures.stored) (ap (λ (v : LotView). v.feed) c.self.view_is ∙ c.stop.ensures.feed) c.stop.ensures.segments c.drop_lot.ensures.keeps
+    lot_keeps_others _ _ c.args.self.now (lot_of c.drop_lot.new.self c.self.inside.feed (block_or c.self.inside.feed.run 0)) c.self.inside.stored c.args.purse.now.pages c.stop.new.purse.pages c.drop_lot.new.purse.pages _ _ (ap (λ (v : LotView). v.stored) c.self.view_is ∙ c.stop.ensures.stored) (ap (λ (v : LotView). v.feed) c.self.view_is ∙ c.stop.ensures.feed) c.stop.ensures.segments c.drop_lot.ensures.keeps

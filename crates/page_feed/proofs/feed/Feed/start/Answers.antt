@@ -10,4 +10,4 @@ returns-clause-begins c =
     let e = c.self.view_is ∙ c.requires.stopped in
     ap (λ (v : FeedView). record v { ahead = reverse c.turn_over.new.to.items; run = c.args.run; open_page = c.turn_over-2.new.to.items; blank = c.lend.new.to.items }) e
     ∙ ap (λ ps. record none { ahead = ps; run = c.args.run; open_page = c.turn_over-2.new.to.items; blank = c.lend.new.to.items }) (begun_ahead c.args.kept.now.items c.self.inside.ahead.items c.turn_over.new.to.items (ap (λ (v : FeedView). v.ahead) e) c.turn_over.ensures.moved)
-    ∙ ap (λ ps. record none { ahead = c.args.kept.now.items; run = c.args.run; open_page = ps; blank = c.lend.new.to.items }) (begun_last c.args.open_page.now.items c.self.inside.open_page.items c.turn_over-2.new.to.items (ap (λ (v : FeedView). v.open_page) e) c.turn_over-2.ensures.moved c.requires.one)
+    ∙ ap (λ ps. record none { ahead = c.args.kept.now.items; run = c.args.run; open_page = ps; blank = c.lend.new.to.items }) (begun_last c.args.open_page.now.items c.self.inside.open_page.items c.turn_over-2.new.to.items (ap (λ (v : FeedView). v.open_page) e) c.turn_over-2.ensures.moved c.requires.fits.1)

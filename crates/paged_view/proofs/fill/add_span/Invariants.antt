@@ -1,7 +1,6 @@
 use Rattle.std.proofs.Common.{◌≡◌, ◌+◌, ◌-◌, ◌≤◌, ◌++◌, length, take}
-use Rattle.paged_view.specs.Pages.{used, used_bytes}
-use Rattle.spool.specs.Headers.{IsSameSegment}
-use Rattle.lot_store.proofs.page.add_span.Given as goal
+use Rattle.paged_view.specs.Pages.{used, used_bytes, IsSameSegment}
+use Rattle.paged_view.proofs.fill.add_span.Given as goal
 
 abbrev pub invariant-pieces : goal.invariant-pieces
 invariant-pieces g l = record {

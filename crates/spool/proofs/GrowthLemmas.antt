@@ -8,7 +8,7 @@ use Rattle.spool.specs.Changes.{IsAppended, IsKept, IsPushed, LeavesOpen}
 use Rattle.spool.specs.declared.writer.RunWriter.{RunWriter}
 use Rattle.spool.proofs.ChainLemmas.{end_is_block, first_not_end, holder_lives}
 use Rattle.spool.proofs.PushLemmas.{end_lives}
-use Rattle.lot_store.specs.Spilling.{NoOrphanBlocks}
+use Rattle.spool.specs.Spilling.{NoOrphanBlocks}
 
 -- A chain that got a page more has the blocks that it had.
 chain_has : (m n : Blocks) (size number at count end next : ℕ) (page : List ℕ)

@@ -1,6 +1,6 @@
 use Rattle.std.proofs.Common.{length, ap, arith}
-use Rattle.lot_store.proofs.PageLemmas.{part_more, same_segment}
-use Rattle.lot_store.proofs.page.add_bytes.Goals as goal
+use Rattle.paged_view.proofs.FillLemmas.{part_more, same_segment}
+use Rattle.paged_view.proofs.fill.add_bytes.Goals as goal
 
 pub returns-clause-used_bytes : goal.returns-clause-used_bytes
 returns-clause-used_bytes c =

@@ -1,7 +1,7 @@
 use Rattle.std.proofs.Common.{◌≡◌, ◌∙◌, arith, ap, length, drop}
 use Rattle.std.proofs.lemmas.List.{length-drop, length-take}
-use Rattle.lot_store.proofs.HereLemmas.{added_piece, whole_piece}
-use Rattle.lot_store.proofs.page.add_span.Goals as goal
+use Rattle.paged_view.proofs.FillLemmas.{added_piece, whole_piece}
+use Rattle.paged_view.proofs.fill.add_span.Goals as goal
 
 pub pieces-preserved : goal.pieces-preserved
 pieces-preserved g c =

@@ -1,7 +1,7 @@
 use Rattle.std.proofs.Common.{length}
 use Rattle.spool.proofs.PushLemmas.{end_lives_told}
-use Rattle.lot_store.proofs.SpillLemmas.{longer_told, unchanged_told}
-use Rattle.lot_store.proofs.spill.push_behind.Goals as goal
+use Rattle.spool.proofs.SpillLemmas.{longer_told, unchanged_told}
+use Rattle.spool.proofs.spill.push_behind.Goals as goal
 
 pub push-requires-clause-live : goal.push-requires-clause-live
 push-requires-clause-live g c = end_lives_told _ (length c.args.page.now.bytes) c.args.writer c.requires.stands

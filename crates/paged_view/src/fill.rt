@@ -1,15 +1,13 @@
 ghost use Rattle.std.specs.Prelude.{◌≡◌, ◌+◌, ◌-◌, ◌^◌, ◌<◌, ◌≤◌, ◌↔◌, [], ◌++◌, min, length, take, IsTrue};
 ghost use Rattle.flow_types.specs.Records.{framed};
-ghost use Rattle.paged_view.specs.Pages.{body, used_bytes, used};
-ghost use Rattle.paged_view.specs.Writing.{written};
-ghost use Rattle.spool.specs.Headers.{IsSameSegment};
+ghost use Rattle.paged_view.specs.Pages.{body, used_bytes, used, IsSameSegment};
 
-use paged_view::page::{HEADER_SIZE, body_of, used_bytes};
+use crate::page::{HEADER_SIZE, body_of, set_used, used_bytes, write_at};
 use segment_core::Segment;
 use span_bytes::span::Span;
 
 /// Writes as many of these bytes behind the used ones of a page as it has room for. How many.
-pub(crate) fn add_bytes(page: &mut Segment, bytes: &[u8]) -> usize
+pub fn add_bytes(page: &mut Segment, bytes: &[u8]) -> usize
     requires { used page.old ≤ length (body page.old) }
     ensures count { result ≡ min (length bytes.now) (length (body page.old) - used page.old) }
     ensures used { used page.new ≡ used page.old + result }
@@ -27,7 +25,7 @@ pub(crate) fn add_bytes(page: &mut Segment, bytes: &[u8]) -> usize
 }
 
 /// Forgets what the page holds.
-pub(crate) fn clear(page: &mut Segment)
+pub fn clear(page: &mut Segment)
     ensures used { used page.new ≡ 0 }
     ensures used_bytes { used_bytes page.new ≡ [] }
     ensures same { IsSameSegment page.old page.new }
@@ -36,7 +34,7 @@ pub(crate) fn clear(page: &mut Segment)
 }
 
 /// Says in the header how many bytes are used, where it said more than there are. How many they are.
-pub(crate) fn trim(page: &mut Segment) -> usize
+pub fn trim(page: &mut Segment) -> usize
     ensures used { used page.new ≡ result }
     ensures within { used page.new ≤ length (body page.new) }
     ensures used_bytes { used_bytes page.new ≡ used_bytes page.old }
@@ -48,27 +46,8 @@ pub(crate) fn trim(page: &mut Segment) -> usize
     filled
 }
 
-// Writes bytes over those of a page from place `at` on.
-fn write_at(page: &mut Segment, at: usize, bytes: &[u8])
-    requires { at + length bytes.now ≤ length page.old.bytes }
-    ensures { page.new ≡ written page.old at bytes.now }
-{
-    page.bytes_mut()[at..at + bytes.len()].copy_from_slice(bytes);
-}
-
-// Says in a page's header how many bytes are used.
-fn set_used(page: &mut Segment, count: usize)
-    requires { count < 2 ^ 32 }
-    ensures used { used page.new ≡ count }
-    ensures body { body page.new ≡ body page.old }
-    ensures same { IsSameSegment page.old page.new }
-{
-    let _len = page.bytes().len();
-    write_at(page, 0, &(count as u32).to_be_bytes());
-}
-
 /// Whether the page has room for another byte.
-pub(crate) fn has_space(page: &Segment) -> bool
+pub fn has_space(page: &Segment) -> bool
     requires { used page.now ≤ length (body page.now) }
     ensures { IsTrue result ↔ (used page.now < length (body page.now)) }
 {
@@ -76,7 +55,7 @@ pub(crate) fn has_space(page: &Segment) -> bool
 }
 
 /// Whether the page has room for so many bytes more.
-pub(crate) fn has_room(page: &Segment, need: usize) -> bool
+pub fn has_room(page: &Segment, need: usize) -> bool
     requires { used page.now ≤ length (body page.now) }
     ensures { IsTrue result ↔ (used page.now + need ≤ length (body page.now)) }
 {
@@ -84,7 +63,7 @@ pub(crate) fn has_room(page: &Segment, need: usize) -> bool
 }
 
 /// Writes a record behind the used bytes of a page that has room for it, its length first. Each byte is copied once.
-pub(crate) fn add_record<X: Span>(page: &mut Segment, row: &X)
+pub fn add_record<X: Span>(page: &mut Segment, row: &X)
     requires len { length (X.seen row.now) < 2 ^ 32 }
     requires room { used page.old + (4 + length (X.seen row.now)) ≤ length (body page.old) }
     ensures used_bytes { used_bytes page.new ≡ used_bytes page.old ++ framed (X.seen row.now) }

@@ -1,31 +1,28 @@
-ghost use Rattle.std.specs.Prelude.{◌≡◌, ◌<◌, ◌≤◌, IfOk, OnOk, OnErr, IsSome, Some, None, length};
+ghost use Rattle.std.specs.Prelude.{◌≡◌, ◌<◌, ◌≤◌, IfOk, OnOk, OnErr, Some, None, length};
 ghost use Rattle.flow_outside.specs.Blocks.{BothTold};
 ghost use Rattle.flow_outside.specs.Causes.{HasCause};
 ghost use Rattle.flow_outside.specs.Told.{IfTold};
-ghost use Rattle.lot_store.specs.Spilling.{HasWriteCause, IsBegun, IsLonger, IsSpilled, IsUnchanged};
-ghost use Rattle.paged_view.specs.Pages.{body, used_bytes, used};
-ghost use Rattle.spool.specs.Headers.{IsSameSegment};
+ghost use Rattle.spool.specs.Spilling.{HasWriteCause, IsBegun, IsLonger, IsSpilled, IsUnchanged};
+ghost use Rattle.paged_view.specs.Pages.{body, used_bytes, used, IsSameSegment};
 ghost use Rattle.spool.specs.Runs.{IsWritten};
 
+use crate::writer::RunWriter;
 use flow_outside::failure::{Failed, StreamFault};
 use flow_outside::spill::Spill;
 use segment_core::Segment;
-use spool::writer::RunWriter;
 
-/// Spills a page behind those that were spilled before, and begins the run with the first. It costs one
+/// Writes a page behind those that were written before, and begins the run with the first. It costs one
 /// write. After a fault the spilled pages are what they were.
-pub(crate) fn spill<D: Spill>(
+pub fn spill<D: Spill>(
     run: &mut Option<RunWriter>,
     disk: &mut D,
     page: &mut Segment,
 ) -> Result<(), StreamFault>
-    requires some { 0 < used page.old }
-    requires within { used page.old ≤ length (body page.old) }
+    requires used { (0 < used page.old) × (used page.old ≤ length (body page.old)) }
     requires stands { IfTold (D.told disk.old) (λ blocks. IsSpilled blocks (length page.old.bytes) run.old) }
     requires begun { IsBegun run.old }
     ensures cause { HasWriteCause (D.fault_count disk.old) (D.fault_count disk.new) result }
-    ensures same { IsSameSegment page.old page.new }
-    ensures used_bytes { used_bytes page.new ≡ used_bytes page.old }
+    ensures page { IsSameSegment page.old page.new × (used_bytes page.new ≡ used_bytes page.old) }
     ensures longer { OnOk result (BothTold (D.told disk.old) (D.told disk.new)
         (IsLonger (length page.old.bytes) run.old run.new page.new.bytes)) }
     ensures refused { OnErr result (BothTold (D.told disk.old) (D.told disk.new)

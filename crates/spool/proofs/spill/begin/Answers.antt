@@ -1,6 +1,6 @@
 use Rattle.std.proofs.Common.{length}
-use Rattle.lot_store.proofs.SpillLemmas.{begun_told}
-use Rattle.lot_store.proofs.spill.begin.Goals as goal
+use Rattle.spool.proofs.SpillLemmas.{begun_told}
+use Rattle.spool.proofs.spill.begin.Goals as goal
 
 pub returns-in-Ok-clause-longer : goal.returns-in-Ok-clause-longer
 returns-in-Ok-clause-longer g c =

@@ -1,6 +1,6 @@
 use Rattle.std.proofs.Common.{arith}
-use Rattle.lot_store.proofs.HereLemmas.{body_stays}
-use Rattle.lot_store.proofs.page.add_record.Goals as goal
+use Rattle.paged_view.proofs.FillLemmas.{body_stays}
+use Rattle.paged_view.proofs.fill.add_record.Goals as goal
 
 pub add_span-requires : goal.add_span-requires
 add_span-requires g c =

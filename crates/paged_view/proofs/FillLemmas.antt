@@ -1,11 +1,11 @@
 -- Pages that are filled from the front.
-use Rattle.std.proofs.Common.{◌≡◌, ℕ, ◌+◌, ◌<◌, ◌≤◌, List, ◌++◌, length, take, drop, sym, ap, ◌∙◌, arith, append_assoc, length-append}
-use Rattle.std.proofs.lemmas.List.{length-take-le, take_at}
+use Rattle.std.proofs.Common.{◌≡◌, ℕ, ◌+◌, ◌-◌, ◌<◌, ◌≤◌, List, ◌++◌, length, take, drop, min, sym, ap, ◌∙◌, arith, append_assoc, length-append}
+use Rattle.std.proofs.Math.Seq.{take-add}
+use Rattle.std.proofs.lemmas.List.{length-drop, length-take, length-take-le, take_all, take_at}
 use Rattle.segment_core.specs.Segments.{SegmentView}
-use Rattle.paged_view.specs.Pages.{body, used_bytes, used}
+use Rattle.paged_view.specs.Pages.{body, used_bytes, used, IsSameSegment}
 use Rattle.paged_view.specs.Writing.{written}
 use Rattle.paged_view.proofs.PageLemmas.{body-written, length-written}
-use Rattle.spool.specs.Headers.{IsSameSegment}
 
 -- How many bytes are used, of a page whose header says no more than there are.
 pub filled_is : (p : SegmentView) (filled : List ℕ) → used p ≤ length (body p) → filled ≡ used_bytes p → length filled ≡ used p
@@ -40,3 +40,20 @@ same_segment p q r filled bytes n within is fits among some put same =
       id = same.id ∙ ap (λ (s : SegmentView). s.id) put;
       len = same.len ∙ ap (λ (s : SegmentView). length s.bytes) put ∙ length-written p (length filled) (take n bytes) (omega (arith, k, fits)) (omega (arith, k, some));
     }
+
+-- A page that is the same segment has a body of the same length.
+pub body_stays : (p q : SegmentView) → IsSameSegment p q → length (body q) ≡ length (body p)
+body_stays p q same = omega (arith, length-drop 16 p.bytes, length-drop 16 q.bytes, same.len)
+
+-- A piece of a record that the page has room for goes in whole.
+pub whole_piece : (p q : SegmentView) (seen piece : List ℕ) (at n : ℕ) → IsSameSegment p q → used q ≡ used p + at → used p + length seen ≤ length (body p) → at ≤ length seen
+    → piece ≡ take (length piece) (drop at seen) → n ≡ min (length piece) (length (body q) - used q) → n ≡ length piece
+whole_piece p q seen piece at n same filled room within part count =
+    omega (arith, count, filled, room, within, body_stays p q same, ap length part, length-take (length piece) (drop at seen), length-drop at seen)
+
+pub added_piece : (p q r : SegmentView) (seen piece : List ℕ) (at n : ℕ) → n ≡ length piece → piece ≡ take (length piece) (drop at seen) → used_bytes q ≡ used_bytes p ++ take at seen → used_bytes r ≡ used_bytes q ++ take n piece
+    → used_bytes r ≡ used_bytes p ++ take (at + length piece) seen
+added_piece p q r seen piece at n whole part before added =
+    added ∙ ap (λ xs. xs ++ take n piece) before ∙ append_assoc (used_bytes p) (take at seen) (take n piece)
+    ∙ ap (λ ys. used_bytes p ++ (take at seen ++ ys)) (take_all n piece (omega (arith, whole)) ∙ part)
+    ∙ ap (λ ys. used_bytes p ++ ys) (sym (take-add at (length piece) seen))

@@ -6,8 +6,8 @@ use Rattle.spool.specs.Runs.{pages_at, HasBlock, IsWritten}
 use Rattle.spool.specs.Changes.{IsAppended, IsKept, IsPushed, LeavesOpen}
 use Rattle.spool.specs.declared.writer.RunWriter.{RunWriter}
 use Rattle.spool.proofs.PushLemmas.{push_leaves, open_leaves}
-use Rattle.lot_store.specs.Spilling.{IsLonger, IsUnchanged}
-use Rattle.lot_store.proofs.GrowthLemmas.{begun_owns, open_owns, push_owns, withdrawn_owns}
+use Rattle.spool.specs.Spilling.{IsLonger, IsUnchanged}
+use Rattle.spool.proofs.GrowthLemmas.{begun_owns, open_owns, push_owns, withdrawn_owns}
 
 -- Two changes of a disk, one after the other.
 pub told_join : (t u v : Option Blocks) (P Q R : Blocks → Blocks → Type 0) → ((k m n : Blocks) → P k m → Q m n → R k n) → BothTold t u P → BothTold u v Q → BothTold t v R
