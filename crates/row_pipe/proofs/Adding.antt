@@ -16,7 +16,7 @@ use Rattle.lot_store.specs.LotCalls.{AppendsRow, IsSupplied, Writes}
 use Rattle.lot_store.specs.Lots.{HoldsRows, LotView}
 use Rattle.lot_store.specs.Storage.{StaysStanding, alone}
 use Rattle.lot_store.proofs.LotLemmas.{on_ok_map}
-use Rattle.lot_store.proofs.SpillLemmas.{told_join, told_with}
+use Rattle.spool.proofs.SpillLemmas.{told_join, told_with}
 use Rattle.lot_store.proofs.StorageLaws.{preserves_join, preserves_more, preserves_none, ready_after}
 use Rattle.lot_store.proofs.StorageLot.{one_stands}
 use Rattle.lot_store.proofs.Telling.{told_after, told_same}

@@ -1,5 +1,5 @@
 -- Row after row of a lot is passed on.
-use Rattle.std.proofs.Common.{◌≡◌, ◌≢◌, ℕ, ◌≤◌, Bool, true, false, All, List, [], ◌∷◌, ◌++◌, map, Result, Option, Some, None, refl, sym, ap, ◌∙◌, subst, arith, append_assoc, append-nil}
+use Rattle.std.proofs.Common.{◌≡◌, ℕ, ◌≤◌, Bool, true, false, All, List, [], ◌∷◌, ◌++◌, map, Result, Option, Some, None, refl, sym, ap, ◌∙◌, subst, arith, append_assoc, append-nil}
 use Rattle.std.proofs.lemmas.Grind.{flat_map-append}
 use Rattle.std.proofs.lemmas.List.{map-append}
 use Rattle.std.proofs.lemmas.List.Elements.{All-head, All-tail, filter-append}
@@ -20,7 +20,7 @@ use Rattle.page_feed.specs.Feeds.{HasLeft}
 use Rattle.lot_store.specs.LotCalls.{Writes}
 use Rattle.lot_store.specs.LotKeeping.{KeepsRows}
 use Rattle.lot_store.specs.Lots.{HoldsRows, IsLeft, LotView}
-use Rattle.lot_store.specs.Spilling.{HasWriteCause}
+use Rattle.spool.specs.Spilling.{HasWriteCause}
 use Rattle.lot_store.specs.Storage.{Preserves, Stand, StaysStanding, pair}
 use Rattle.lot_store.proofs.StorageLaws.{left_stays}
 use Rattle.lot_store.proofs.Telling.{told_same, untold_before}

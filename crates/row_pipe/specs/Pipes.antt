@@ -9,7 +9,7 @@ use Rattle.flow_types.specs.Tuples.{Tuple}
 use Rattle.flow_types.specs.Types.{Fields}
 use Rattle.flow_types.specs.Records.{IsTupleOf, form}
 use Rattle.flow_model.specs.Env.{Tuples}
-use Rattle.page_feed.specs.Feeds.{HasLeft, block_of}
+use Rattle.page_feed.specs.Feeds.{HasLeft}
 use Rattle.lot_store.specs.LotCalls.{IsSupplied}
 use Rattle.lot_store.specs.Lots.{HoldsRows, LotView, held}
 use Rattle.lot_store.specs.Storage.{IsReady, Preserves, Stand, alone, held_count, pair}
@@ -82,12 +82,11 @@ Passes told now input input_now out out_now purse rest =
 -- Why a pass ended early: as any stream's reading, and `Damaged` has the block that was read last.
 pub record HasPassCause (before now : ℕ) (told : Option Blocks) (input : LotView) (answer : Result Unit StreamFault) : Type 0 where
   pub cause : HasStreamCause before now told answer
-  pub damaged : (block : ℕ) → IsErrOf answer (fault.Damaged block) → block ≡ block_of input.feed.run
+  pub damaged : (block : ℕ) → IsErrOf answer (fault.Damaged block) → block ≡ input.read_last
 
--- Both lots rest where all went well. So does the one that was read after any answer but `Damaged`, which leaves it at the block
--- that was read last.
+-- The lot that was read rests, whatever the answer, and the other where all went well.
 pub record RestsAfter (input out : LotView) (answer : Result Unit StreamFault) : Type 0 where
-  pub read : ((block : ℕ) → IsErrOf answer (fault.Damaged block) → ⊥) → length (held input) ≤ input.stored.room
+  pub read : length (held input) ≤ input.stored.room
   pub written : OnOk answer (length (held out) ≤ out.stored.room)
 
 -- The lot shows the record of a tuple of the schema.

@@ -1,4 +1,4 @@
-ghost use Rattle.std.specs.Prelude.{◌≡◌, ◌<◌, ◌≤◌, ◌^◌, [], ◌∷◌, OnOk, IsTrue, length, map};
+ghost use Rattle.std.specs.Prelude.{◌<◌, ◌≤◌, ◌^◌, [], ◌∷◌, OnOk, IsTrue, length, map};
 ghost use Rattle.std.specs.List.{list_all};
 ghost use Rattle.flow_outside.specs.Blocks.{BothTold};
 ghost use Rattle.flow_outside.specs.Told.{IfTold};
@@ -6,7 +6,7 @@ ghost use Rattle.flow_types.specs.Limits.{record_limit};
 ghost use Rattle.flow_types.specs.Types.{widest};
 ghost use Rattle.flow_types.specs.Records.{IsRecord, form, tuple_of};
 ghost use Rattle.flow_model.specs.Rows.{branch_rows, columns_of};
-ghost use Rattle.lot_store.specs.Spilling.{HasWriteCause};
+ghost use Rattle.spool.specs.Spilling.{HasWriteCause};
 ghost use Rattle.lot_store.specs.LotCalls.{Writes};
 ghost use Rattle.row_pipe.specs.Pipes.{AddsRows, CanAdd, HasPlaceFor};
 ghost use Rattle.row_pipe.specs.Works.{are_columns_over, is_branch_over, is_work_over, piped};

@@ -1,4 +1,4 @@
-ghost use Rattle.std.specs.Prelude.{◌≡◌, ℕ, ◌+◌, ◌<◌, ◌≤◌, true, [], ◌∷◌, IfSome, IsErrOf, OnOk, length};
+ghost use Rattle.std.specs.Prelude.{◌≡◌, ℕ, ◌+◌, ◌<◌, ◌≤◌, true, IfSome, IsErrOf, OnOk, length};
 ghost use Rattle.flow_outside.specs.Blocks.{BothTold};
 ghost use Rattle.flow_outside.specs.Causes.{HasStreamCause};
 ghost use Rattle.flow_outside.specs.Told.{IfTold};
@@ -7,9 +7,9 @@ ghost use Rattle.flow_model.specs.Env.{Tuples};
 ghost use Rattle.lot_store.specs.LotCalls.{Writes};
 ghost use Rattle.lot_store.specs.LotKeeping.{KeepsRows};
 ghost use Rattle.lot_store.specs.Lots.{IsRewound, held};
-ghost use Rattle.lot_store.specs.Spilling.{HasWriteCause};
+ghost use Rattle.spool.specs.Spilling.{HasWriteCause};
 ghost use Rattle.lot_store.specs.Storage.{IsReady, pair};
-ghost use Rattle.page_feed.specs.Feeds.{block_of, lent};
+ghost use Rattle.page_feed.specs.Feeds.{lent};
 ghost use Rattle.row_pipe.specs.Pipes.{CanAdd, GivesAll, GivesRows, GivesShown, HasPassCause, HasPlaces, HoldsWhatFits, LeavesTuples, MayPass, Passes, RestsAfter, ShowsTuple};
 ghost use Rattle.spool.specs.Ios.{HasSameParts};
 
@@ -24,7 +24,7 @@ use segment_core::Purse;
 use spool::io::Io;
 
 /// Adds the rows that are given of a lot's rows behind those of another. For a union it is called once for each
-/// input. Both lots are at rest afterwards, the one that is read whatever the answer, but for `Damaged`.
+/// input. Both lots are at rest afterwards, the one that is read whatever the answer.
 ///
 /// `Spill` comes only where the disk's count of faults rose in this call, `Damaged` only over a disk that doesn't
 /// tell: where a page isn't the one that was put, or a record isn't that of a row; it has the block that was read
@@ -69,20 +69,18 @@ fn pass_and_rest<D: Spill>(
     ensures preserves { Passes (D.told disk.old) (D.told disk.new)
         input.old input.new out.old out.new purse.old purse.new }
     ensures cause { HasStreamCause (D.fault_count disk.old) (D.fault_count disk.new) (D.told disk.old) result }
-    ensures damaged { (block : ℕ) → IsErrOf result (StreamFault.Damaged block) → block ≡ block_of input.new.feed.run }
-    ensures read { ((block : ℕ) → IsErrOf result (StreamFault.Damaged block) → ⊥) →
-        length (held input.new) ≤ input.new.stored.room }
+    ensures damaged { (block : ℕ) → IsErrOf result (StreamFault.Damaged block) → block ≡ input.new.read_last }
+    ensures read { length (held input.new) ≤ input.new.stored.room }
     ensures written { OnOk result (length (held out.new) ≤ out.new.stored.room) }
 {
     match input.rewind(purse, disk) {
         Ok(()) => {
             match pass_all(p, input, out, s, purse, disk) {
                 Ok(()) => rest_both(input, out, purse, disk),
-                Err(StreamFault::Spill) => match input.rest(purse, disk) {
-                    Ok(()) => Err(StreamFault::Spill),
-                    Err(fault) => Err(fault),
+                Err(fault) => match input.rest(purse, disk) {
+                    Ok(()) => Err(fault),
+                    Err(at_rest) => Err(at_rest),
                 },
-                Err(StreamFault::Damaged { block }) => Err(StreamFault::Damaged { block }),
             }
         }
         Err(fault) => Err(fault),
@@ -123,9 +121,10 @@ fn pass_all<D: Spill>(
     requires ready { IsRewound input.old }
     requires can { CanAdd (D.told disk.old) out.old purse.old }
     requires places { IfTold (D.told disk.old) (HasPlaces p.now.takes p.now.work input.old out.old purse.old.pages) }
-    requires left { IfTold (D.told disk.old) (λ blocks. (rows : Tuples) × LeavesTuples p.now.takes blocks input.old rows) }
+    requires left { IfTold (D.told disk.old)
+        (λ blocks. (rows : Tuples) × LeavesTuples p.now.takes blocks input.old rows) }
     ensures cause { HasStreamCause (D.fault_count disk.old) (D.fault_count disk.new) (D.told disk.old) result }
-    ensures damaged { (block : ℕ) → IsErrOf result (StreamFault.Damaged block) → block ≡ block_of input.new.feed.run }
+    ensures damaged { (block : ℕ) → IsErrOf result (StreamFault.Damaged block) → block ≡ input.new.read_last }
     ensures passes { Passes (D.told disk.old) (D.told disk.new) input.old input.new out.old out.new purse.old purse.new }
     ensures gives { OnOk result (BothTold (D.told disk.old) (D.told disk.new)
         (GivesAll p.now.takes p.now.work input.old out.old out.new purse.old.pages)) }
@@ -155,7 +154,7 @@ fn give_head<D: Spill>(
     requires places { IfTold (D.told disk.old) (HasPlaces p.now.takes p.now.work input.now out.old purse.old.pages) }
     requires shown { IfTold (D.told disk.old) (λ _. ShowsTuple p.now.takes input.now) }
     ensures cause { HasStreamCause (D.fault_count disk.old) (D.fault_count disk.new) (D.told disk.old) result }
-    ensures damaged { (block : ℕ) → IsErrOf result (StreamFault.Damaged block) → block ≡ block_of input.now.feed.run }
+    ensures damaged { (block : ℕ) → IsErrOf result (StreamFault.Damaged block) → block ≡ input.now.read_last }
     ensures whole { OnOk result (IfSome input.now.feed.shown (IsRecord p.now.takes)) }
     ensures writes { Writes (D.told disk.old) (D.told disk.new) purse.old purse.new out.old out.new }
     ensures can { OnOk result (CanAdd (D.told disk.new) out.new purse.new) }
@@ -166,16 +165,16 @@ fn give_head<D: Spill>(
         Some(row) => if check_bytes(&row, &p.takes) {
             p.work.give(&row, &p.takes, out, s, purse, disk)
         } else {
-            Err(damaged::<D>(input))
+            Err(damaged(input))
         },
-        None => Err(damaged::<D>(input)),
+        None => Err(damaged(input)),
     }
 }
 
-fn damaged<D: Spill>(input: &Lot) -> StreamFault
-    ensures { result ≡ StreamFault.Damaged (block_of input.now.feed.run) }
+fn damaged(input: &Lot) -> StreamFault
+    ensures { result ≡ StreamFault.Damaged input.now.read_last }
 {
     StreamFault::Damaged {
-        block: RecordStream::<D>::block(input),
+        block: input.last_block(),
     }
 }

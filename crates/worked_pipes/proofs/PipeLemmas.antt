@@ -118,7 +118,7 @@ count_one t u a b p q tidy keeps =
 
 -- After an answer that isn't a fault the lot that was read is at rest.
 pub read_rests : (answer : Result Unit StreamFault) (input out : LotView) → RestsAfter input out answer → OnOk answer (length (held input) ≤ input.stored.room)
-read_rests (Ok done) input out rests = rests.read (λ block is. let wrong = is in cc)
+read_rests (Ok done) input out rests = rests.read
 read_rests (Err fault) input out rests = tt
 
 -- Over a disk that doesn't tell nothing is to be known.

@@ -1,6 +1,5 @@
 use Rattle.std.proofs.Common.{option_map, sym, ap, ◌∙◌}
 use Rattle.paged_view.specs.Seen.{seen_in}
-use Rattle.page_feed.specs.Feeds.{block_of}
 use Rattle.row_pipe.proofs.Showing.{damaged_head, gives_head, place_of_head}
 use Rattle.row_pipe.proofs.pipe.give_head.Goals as goal
 
@@ -14,4 +13,4 @@ returns-then-check_bytes-clause-adds g c =
 
 pub returns-else-check_bytes-clause-cause : goal.returns-else-check_bytes-clause-cause
 returns-else-check_bytes-clause-cause g c =
-    damaged_head _ (block_of c.args.input.now.feed.run) _ c.args.p.now.takes c.args.input.now (seen_in c.in-Some.row) c.check_bytes.result c.damaged.result c.requires.shown (ap (option_map seen_in) (sym c.in-Some.is) ∙ c.head.ensures) c.check_bytes.ensures.1 c.if-check_bytes.false c.damaged.ensures
+    damaged_head _ c.args.input.now.read_last _ c.args.p.now.takes c.args.input.now (seen_in c.in-Some.row) c.check_bytes.result c.damaged.result c.requires.shown (ap (option_map seen_in) (sym c.in-Some.is) ∙ c.head.ensures) c.check_bytes.ensures.1 c.if-check_bytes.false c.damaged.ensures

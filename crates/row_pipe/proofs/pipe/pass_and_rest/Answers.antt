@@ -62,8 +62,3 @@ pub returns-in-Err-rest-clause-preserves : goal.returns-in-Err-rest-clause-prese
 returns-in-Err-rest-clause-preserves g c =
     let a = c.args in
     passes_join _ _ _ a.input.now c.pass_all.new.input c.rest.new.self a.out.now c.pass_all.new.out c.pass_all.new.out a.purse.now c.pass_all.new.purse c.rest.new.purse (passes_join _ _ _ a.input.now c.rewind.new.self c.pass_all.new.input a.out.now a.out.now c.pass_all.new.out a.purse.now c.rewind.new.purse c.pass_all.new.purse (passes_read _ _ a.input.now c.rewind.new.self a.out.now a.purse.now c.rewind.new.purse c.rewind.ensures.preserves) c.pass_all.ensures.passes) (passes_read _ _ c.pass_all.new.input c.rest.new.self c.pass_all.new.out c.pass_all.new.purse c.rest.new.purse (c.rest.ensures.nothing (fits_beside _ _ a.input.now c.pass_all.new.input a.out.now c.pass_all.new.out a.purse.now c.pass_all.new.purse (passes_join _ _ _ a.input.now c.rewind.new.self c.pass_all.new.input a.out.now a.out.now c.pass_all.new.out a.purse.now c.rewind.new.purse c.pass_all.new.purse (passes_read _ _ a.input.now c.rewind.new.self a.out.now a.purse.now c.rewind.new.purse c.rewind.ensures.preserves) c.pass_all.ensures.passes) c.requires.may.rests)).0)
-
-pub returns-in-Err-Damaged-clause-preserves : goal.returns-in-Err-Damaged-clause-preserves
-returns-in-Err-Damaged-clause-preserves g c =
-    let a = c.args in
-    passes_join _ _ _ a.input.now c.rewind.new.self c.pass_all.new.input a.out.now a.out.now c.pass_all.new.out a.purse.now c.rewind.new.purse c.pass_all.new.purse (passes_read _ _ a.input.now c.rewind.new.self a.out.now a.purse.now c.rewind.new.purse c.rewind.ensures.preserves) c.pass_all.ensures.passes
