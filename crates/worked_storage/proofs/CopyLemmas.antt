@@ -111,7 +111,7 @@ keeps_both told a b c f g = record {
 
 -- After an answer that isn't a fault both lots rest, and what was added is there.
 pub rests_both : (answer : Result Unit StreamFault) (done : Unit) (x y : LotView) → answer ≡ Ok done → RestsAfter x y answer → (length (held x) ≤ x.stored.room) × (length (held y) ≤ y.stored.room)
-rests_both (Ok value) done x y is rests = (rests.read (λ block is_wrong. let wrong = is_wrong in cc), rests.written)
+rests_both (Ok value) done x y is rests = (rests.read, rests.written)
 rests_both (Err fault) done x y is rests = let wrong = is in cc
 
 pub ok_has : {E : Type 0} (answer : Result Unit E) (done : Unit) (P : Type 0) → answer ≡ Ok done → OnOk answer P → P

@@ -26,7 +26,7 @@ use Rattle.row_pipe.specs.declared.work.Work.{Work}
 use Rattle.lot_store.specs.Storage.{IsNoneOf, IsReady, IsReadyAt, Preserves, Stand, StaysStanding, StorageView, alone, held_count, lot_at, places_at, with_segment}
 use Rattle.lot_store.proofs.LotLemmas.{on_ok_map}
 use Rattle.lot_store.proofs.RowsRead.{gains_of, rows_read}
-use Rattle.lot_store.proofs.SpillLemmas.{told_with}
+use Rattle.spool.proofs.SpillLemmas.{told_with}
 use Rattle.lot_store.proofs.StorageLaws.{counts_after, freed_all, preserves_join, preserves_more, preserves_none, preserves_within, ready_of_at, ready_part, stand_part}
 use Rattle.lot_store.proofs.StorageLot.{one_stands}
 use Rattle.lot_store.proofs.StorageSums.{picked, split_sum}

@@ -1,8 +1,11 @@
 -- A worker's storage as contracts see it, and what its calls keep. The rules are this project's own.
-use Rattle.std.specs.Prelude.{◌≡◌, ℕ, ◌+◌, ◌-◌, ◌/◌, ◌<◌, ◌≤◌, Bool, List, [], ◌∷◌, ◌++◌, length, map, Option, None}
+use Rattle.std.specs.Prelude.{◌≡◌, ℕ, ◌+◌, ◌-◌, ◌/◌, ◌^◌, ◌<◌, ◌≤◌, Bool, List, [], ◌∷◌, ◌++◌, length, map, Option, None, min, Result, IsErrOf}
 use Rattle.std.specs.List.{range_with_len}
 use Rattle.segment_core.specs.Segments.{PurseView}
 use Rattle.flow_outside.specs.Blocks.{Blocks}
+use Rattle.flow_outside.specs.Causes.{HasStreamCause}
+use Rattle.flow_outside.specs.declared.failure.StreamFault.{StreamFault}
+use Rattle.flow_outside.specs.declared.failure.StreamFault.TheVariants as fault
 use Rattle.flow_model.specs.Env.{Tuples}
 use Rattle.flow_types.specs.Types.{Fields}
 use Rattle.lot_store.specs.Lots.{LotView, held}
@@ -53,6 +56,15 @@ pub record MayRead (purse : PurseView) (lot : LotView) : Type 0 where
 -- A lot holds the rows of some tuples of a schema.
 abbrev pub HoldsSome : Fields → LotView → Blocks → Type 0
 HoldsSome fields lot blocks = (tuples : Tuples) × HoldsTuples fields blocks lot tuples
+
+-- how many records these are, the greatest number of 64 bits where there are more
+abbrev pub row_count : List (List ℕ) → ℕ
+row_count records = min (length records) (2 ^ 64 - 1)
+
+-- Why counting a lot's records ended early: as any stream's reading, and `Damaged` has the block that was read last.
+pub record HasCountCause (before now : ℕ) (told : Option Blocks) (lot : LotView) (answer : Result ℕ StreamFault) : Type 0 where
+  pub cause : HasStreamCause before now told answer
+  pub damaged : (block : ℕ) → IsErrOf answer (fault.Damaged block) → block ≡ lot.read_last
 
 -- No block that was one of the lots' is live.
 abbrev pub FreesAll : (lots : List LotView) → (old new : Blocks) → Type 0

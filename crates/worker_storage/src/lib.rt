@@ -6,6 +6,7 @@
 //! in the purse or in a lot.
 #![tactic(auto)]
 
+mod counting;
 mod places;
 mod storage;
 

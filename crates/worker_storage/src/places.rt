@@ -1,16 +1,19 @@
 //! Calls over the lots at some places of a list, told by these lots alone.
-ghost use Rattle.std.specs.Prelude.{◌≡◌, ◌≢◌, ℕ, ◌+◌, ◌<◌, ◌≤◌, ◌^◌, [], ◌∷◌, true, None, OnOk, IsSome, is_ok, false, length, slice_set, vec_len};
+ghost use Rattle.std.specs.Prelude.{◌≡◌, ◌≢◌, ℕ, ◌<◌, ◌≤◌, ◌^◌, [], ◌∷◌, true, IfOk, OnOk, is_ok, false, length, slice_set, vec_len};
 ghost use Rattle.std.specs.List.{swap};
 ghost use Rattle.flow_outside.specs.Blocks.{BothTold};
 ghost use Rattle.flow_outside.specs.Causes.{HasStreamCause};
 ghost use Rattle.flow_outside.specs.Told.{IfTold};
-ghost use Rattle.lot_store.specs.LotCalls.{AppendsPage, AppendsRow, IsSupplied, KeepsContents, Writes};
-ghost use Rattle.lot_store.specs.Lots.{IsAtRest, LotView, empty, held};
-ghost use Rattle.lot_store.specs.Spilling.{FreesBlocks, HasWriteCause};
+ghost use Rattle.lot_store.specs.LotCalls.{AppendsPage, AppendsRow, IsSupplied, KeepsContents, Reads, Writes};
+ghost use Rattle.lot_store.specs.Lots.{LotView, empty, held};
+ghost use Rattle.lot_store.specs.Rows.{IsWhole, rows_in};
+ghost use Rattle.spool.specs.Spilling.{HasWriteCause};
 ghost use Rattle.lot_store.specs.Storage.{IsReady, Preserves, alone, lot_at, with_segment};
 ghost use Rattle.row_pipe.specs.Pipes.{GivesRows, HasPassCause, HoldsWhatFits, MayPass, Passes, RestsAfter};
 ghost use Rattle.spool.specs.Ios.{HasSameParts};
+ghost use Rattle.worker_storage.specs.Storages.{HasCountCause, MayRead, row_count};
 
+use crate::counting::count_rows;
 use expr_core::scratch::Scratch;
 use flow_outside::failure::StreamFault;
 use flow_outside::spill::Spill;
@@ -122,6 +125,34 @@ pub(crate) fn drop_at<D: Spill>(
         lot_at lots.new.items i d ≡ lot_at lots.old.items i d }
 {
     lots[at].drop_lot(purse, disk)
+}
+
+/// `count_rows` of the lot at a place.
+pub(crate) fn count_at<D: Spill>(
+    lots: &mut Vec<Lot>,
+    at: usize,
+    purse: &mut Purse,
+    disk: &mut D,
+) -> Result<u64, StreamFault>
+    requires there { at < vec_len lots.old }
+    requires may { (d : LotView) → MayRead purse.old (lot_at lots.old.items at d) }
+    requires ready { (d : LotView) → IsReady (alone (D.told disk.old) purse.old
+        (lot_at lots.old.items at d)) }
+    requires whole { (d : LotView) → IfTold (D.told disk.old)
+        (λ blocks. IsWhole blocks (lot_at lots.old.items at d)) }
+    ensures count { (d : LotView) → IfOk result (λ count. IfTold (D.told disk.old)
+        (λ blocks. count ≡ row_count (rows_in blocks (lot_at lots.old.items at d)))) }
+    ensures reads { (d : LotView) → Reads (D.told disk.old) (D.told disk.new) purse.old purse.new
+        (lot_at lots.old.items at d) (lot_at lots.new.items at d) }
+    ensures cause { (d : LotView) → HasCountCause (D.fault_count disk.old) (D.fault_count disk.new)
+        (D.told disk.old) (lot_at lots.new.items at d) result }
+    ensures rests { (d : LotView) → length (held (lot_at lots.new.items at d)) ≤
+        (lot_at lots.new.items at d).stored.room }
+    ensures count_same { length lots.new.items ≡ length lots.old.items }
+    ensures same { (i : ℕ) (d : LotView) → i ≢ at →
+        lot_at lots.new.items i d ≡ lot_at lots.old.items i d }
+{
+    count_rows(&mut lots[at], purse, disk)
 }
 
 /// `pipe` from the lot at a place to the lot at another.

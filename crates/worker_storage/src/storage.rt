@@ -1,18 +1,19 @@
-ghost use Rattle.std.specs.Prelude.{◌≡◌, ◌≢◌, ℕ, ◌+◌, ◌<◌, ◌≤◌, ◌^◌, List, [], ◌∷◌, ◌++◌, All, true, None, Some, IfOk, OnOk, is_ok, length, slice_set};
+ghost use Rattle.std.specs.Prelude.{◌≡◌, ◌≢◌, ℕ, ◌+◌, ◌<◌, ◌≤◌, ◌^◌, [], ◌∷◌, true, IfOk, OnOk, is_ok, length, slice_set};
 ghost use Rattle.std.specs.List.{swap};
 ghost use Rattle.flow_outside.specs.Blocks.{BothTold};
 ghost use Rattle.flow_outside.specs.Causes.{HasStreamCause};
 ghost use Rattle.flow_outside.specs.Told.{IfTold};
 ghost use Rattle.lot_store.specs.LotCalls.{AppendsPage, IsSupplied};
 ghost use Rattle.lot_store.specs.Lots.{LotView, empty, held};
-ghost use Rattle.lot_store.specs.Rows.{Gains, rows_of};
-ghost use Rattle.lot_store.specs.Spilling.{HasWriteCause};
+ghost use Rattle.lot_store.specs.Rows.{Gains, IsWhole, rows_in, rows_of};
+ghost use Rattle.spool.specs.Spilling.{HasWriteCause};
 ghost use Rattle.lot_store.specs.Storage.{IsReadyAt, held_count, lot_at, with_segment};
 ghost use Rattle.row_pipe.specs.Pipes.{GivesWithin, HasPassCause, RestsAfter};
-ghost use Rattle.worker_storage.specs.Storages.{FreesAll, HoldsSome, IsShort, KeepsStorage, MayRead, all_places, given, view_of, with_lot};
+ghost use Rattle.worker_storage.specs.Storages.{FreesAll, HasCountCause, HoldsSome, IsShort, KeepsStorage, MayRead, all_places, given, row_count, view_of, with_lot};
 
 use crate::places::{
-    append_at, append_page_at, drop_at, exchange_at, first_fault, pipe_at, rest_at, swap_at,
+    append_at, append_page_at, count_at, drop_at, exchange_at, first_fault, pipe_at, rest_at,
+    swap_at,
 };
 use expr_core::scratch::Scratch;
 use flow_outside::failure::StreamFault;
@@ -213,10 +214,32 @@ impl<D: Spill> WorkerStorage<D> {
         exchange_at(&mut self.lots, at, lot);
     }
 
+    /// How many records a lot has, 2^64 - 1 where there are more. The lot is at rest before and, whatever the
+    /// answer, afterwards. Each of its pages is read once.
+    ///
+    /// `Spill` comes only where the disk's count of faults rose in this call, `Damaged` only over a disk that
+    /// doesn't tell, with the block that was read last.
+    pub fn rows(&mut self, at: usize) -> Result<u64, StreamFault>
+        requires there { at < length self.old.lots }
+        requires may { (d : LotView) → MayRead self.old.purse (lot_at self.old.lots at d) }
+        requires whole { (d : LotView) → IfTold (D.told self.old.disk)
+            (λ blocks. IsWhole blocks (lot_at self.old.lots at d)) }
+        ensures count { (d : LotView) → IfOk result (λ count. IfTold (D.told self.old.disk)
+            (λ blocks. count ≡ row_count (rows_in blocks (lot_at self.old.lots at d)))) }
+        ensures keeps { KeepsStorage D.told self.old self.new (at ∷ []) [] true }
+        ensures cause { (d : LotView) → HasCountCause (D.fault_count self.old.disk)
+            (D.fault_count self.new.disk) (D.told self.old.disk) (lot_at self.new.lots at d) result }
+        ensures rests { (d : LotView) → length (held (lot_at self.new.lots at d)) ≤
+            (lot_at self.new.lots at d).stored.room }
+    {
+        count_at(&mut self.lots, at, &mut self.purse, &mut self.disk)
+    }
+
     /// Adds the rows that are given of a lot's rows behind those of another lot, as `pipe` does.
     ///
     /// `Spill` comes only where the disk's count of faults rose in this call, `Damaged` only over
-    /// a disk that doesn't tell, with the block that was read last.
+    /// a disk that doesn't tell, with the block that was read last. Both lots are at rest afterwards, the
+    /// one that is read whatever the answer.
     pub fn pipe(
         &mut self,
         p: &RowPipe,
