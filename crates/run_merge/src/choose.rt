@@ -1,5 +1,5 @@
 //! The stream whose record stands first.
-ghost use Rattle.std.specs.Prelude.{◌≡◌, ◌≢◌, ℕ, ◌+◌, ◌<◌, All, List, true, Some, length, option_map, slice_index_or};
+ghost use Rattle.std.specs.Prelude.{◌≡◌, ◌≢◌, ℕ, ◌+◌, ◌<◌, All, true, Some, length, option_map, slice_index_or};
 ghost use Rattle.paged_view.specs.Seen.{seen_in};
 ghost use Rattle.run_merge.specs.declared.source.Source.{Source};
 ghost use Rattle.run_merge.specs.Merging.{IsBestBelow, IsLess, ShowsFitting, number_at, number_of_given, shown_at};
@@ -99,8 +99,10 @@ fn is_less_row<D: Spill, R: RecordStream<D>, O: RecordOrder>(one: &R, other: &R,
 pub(crate) fn give<R>(sources: &mut [Source<R>], place: usize)
     requires { place < length sources.old }
     ensures count { length sources.new ≡ length sources.old }
-    ensures same { (i : ℕ) (d : Source R) → i ≢ place → slice_index_or sources.new i d ≡ slice_index_or sources.old i d }
-    ensures stream { (d : Source R) → (slice_index_or sources.new place d).stream ≡ (slice_index_or sources.old place d).stream }
+    ensures same { (i : ℕ) (d : Source R) → i ≢ place → slice_index_or sources.new i d
+        ≡ slice_index_or sources.old i d }
+    ensures stream { (d : Source R) → (slice_index_or sources.new place d).stream
+        ≡ (slice_index_or sources.old place d).stream }
     ensures given { (d : Source R) → (slice_index_or sources.new place d).given ≡ true }
 {
     sources[place].given = true;

@@ -1,5 +1,5 @@
 //! Streams are advanced whose record was given.
-ghost use Rattle.std.specs.Prelude.{◌≡◌, ◌≢◌, ℕ, ◌+◌, ◌<◌, ◌≤◌, Bool, false, true, All, List, OnOk, OnErr, IsErrOf, length, slice_index_or, sum_by};
+ghost use Rattle.std.specs.Prelude.{◌≡◌, ◌≢◌, ℕ, ◌<◌, ◌≤◌, false, true, All, OnOk, OnErr, IsErrOf, length, slice_index_or, sum_by};
 ghost use Rattle.flow_outside.specs.Causes.{HasStreamCause};
 ghost use Rattle.segment_core.specs.Segments.{segment_sum};
 ghost use Rattle.paged_view.specs.Streams.{KnowsRows};
@@ -27,14 +27,19 @@ pub(crate) fn fill<D: Spill, R: RecordStream<D>, O: RecordOrder>(
     ensures fitting { All (WaitsFitting (O.is_fit order.now) (O.prefix_of order.now) R.shown) sources.new }
     ensures waits { OnOk result (All (λ s. s.given ≡ false) sources.new) }
     ensures rows { OnOk result ((rows : Rows) →
-        Merges (O.cmp order.now) (yields (O.cmp order.now) (O.is_fit order.now) R.shown R.left (D.told disk.old)) sources.old rows →
+        Merges (O.cmp order.now)
+        (yields (O.cmp order.now) (O.is_fit order.now) R.shown R.left
+        (D.told disk.old)) sources.old rows →
         Merges (O.cmp order.now) (yields (O.cmp order.now) (O.is_fit order.now) R.shown R.left (D.told disk.new)) sources.new rows) }
-    ensures later { sum_by (most_of R.shown R.most_left) sources.new ≤ sum_by (most_of R.shown R.most_left) sources.old }
+    ensures later { sum_by (most_of R.shown R.most_left) sources.new
+        ≤ sum_by (most_of R.shown R.most_left) sources.old }
     ensures count { length sources.new ≡ length sources.old }
-    ensures segments { (h : ℕ → ℕ → ℕ) → sum_by (λ s. segment_sum h (R.held s.stream)) sources.new ≡ sum_by (λ s. segment_sum h (R.held s.stream)) sources.old }
+    ensures segments { (h : ℕ → ℕ → ℕ) → sum_by (λ s. segment_sum h (R.held s.stream)) sources.new
+        ≡ sum_by (λ s. segment_sum h (R.held s.stream)) sources.old }
     ensures tells { D.told disk.new ≡ D.told disk.old }
     ensures counted { D.given disk.new ≡ D.given disk.old }
-    ensures damaged { (block : ℕ) → IsErrOf result (StreamFault.Damaged block) → block ≡ number_of_given R.block_read sources.new }
+    ensures damaged { (block : ℕ) → IsErrOf result (StreamFault.Damaged block) →
+        block ≡ number_of_given R.block_read sources.new }
     ensures cause { HasStreamCause (D.fault_count disk.old) (D.fault_count disk.new) (D.told disk.old) result }
 {
     for at in 0..sources.len() {
@@ -61,16 +66,22 @@ fn fill_at<D: Spill, R: RecordStream<D>, O: RecordOrder>(
     ensures fitting { All (WaitsFitting (O.is_fit order.now) (O.prefix_of order.now) R.shown) sources.new }
     ensures waits { (d : Source R) → OnOk result ((slice_index_or sources.new at d).given ≡ false) }
     ensures rows { OnOk result ((rows : Rows) →
-        Merges (O.cmp order.now) (yields (O.cmp order.now) (O.is_fit order.now) R.shown R.left (D.told disk.old)) sources.old rows →
+        Merges (O.cmp order.now)
+        (yields (O.cmp order.now) (O.is_fit order.now) R.shown R.left
+        (D.told disk.old)) sources.old rows →
         Merges (O.cmp order.now) (yields (O.cmp order.now) (O.is_fit order.now) R.shown R.left (D.told disk.new)) sources.new rows) }
-    ensures later { sum_by (most_of R.shown R.most_left) sources.new ≤ sum_by (most_of R.shown R.most_left) sources.old }
+    ensures later { sum_by (most_of R.shown R.most_left) sources.new
+        ≤ sum_by (most_of R.shown R.most_left) sources.old }
     ensures count { length sources.new ≡ length sources.old }
-    ensures same { (i : ℕ) (d : Source R) → i ≢ at → slice_index_or sources.new i d ≡ slice_index_or sources.old i d }
-    ensures segments { (h : ℕ → ℕ → ℕ) → sum_by (λ s. segment_sum h (R.held s.stream)) sources.new ≡ sum_by (λ s. segment_sum h (R.held s.stream)) sources.old }
+    ensures same { (i : ℕ) (d : Source R) → i ≢ at → slice_index_or sources.new i d
+        ≡ slice_index_or sources.old i d }
+    ensures segments { (h : ℕ → ℕ → ℕ) → sum_by (λ s. segment_sum h (R.held s.stream)) sources.new
+        ≡ sum_by (λ s. segment_sum h (R.held s.stream)) sources.old }
     ensures tells { D.told disk.new ≡ D.told disk.old }
     ensures counted { D.given disk.new ≡ D.given disk.old }
     ensures failed { (d : Source R) → OnErr result ((slice_index_or sources.new at d).given ≡ true) }
-    ensures damaged { (block : ℕ) (d : Source R) → IsErrOf result (StreamFault.Damaged block) → block ≡ R.block_read (slice_index_or sources.new at d).stream }
+    ensures damaged { (block : ℕ) (d : Source R) → IsErrOf result (StreamFault.Damaged block) →
+        block ≡ R.block_read (slice_index_or sources.new at d).stream }
     ensures cause { HasStreamCause (D.fault_count disk.old) (D.fault_count disk.new) (D.told disk.old) result }
 {
     fill_place(sources, at, order, disk)
@@ -85,22 +96,35 @@ fn fill_place<D: Spill, R: RecordStream<D>, O: RecordOrder>(
 ) -> Result<(), StreamFault>
     requires there { at < length sources.old }
     requires ready { (d : Source R) → R.IsReady (slice_index_or sources.old at d).stream }
-    requires fitting { (d : Source R) → WaitsFitting (O.is_fit order.now) (O.prefix_of order.now) R.shown (slice_index_or sources.old at d) }
-    requires known { (d : Source R) → KnowsRows (D.told disk.old) (yields (O.cmp order.now) (O.is_fit order.now) R.shown R.left (D.told disk.old) (slice_index_or sources.old at d)) }
+    requires fitting { (d : Source R) →
+        WaitsFitting (O.is_fit order.now) (O.prefix_of order.now) R.shown
+        (slice_index_or sources.old at d) }
+    requires known { (d : Source R) →
+        KnowsRows (D.told disk.old)
+        (yields (O.cmp order.now) (O.is_fit order.now) R.shown R.left (D.told disk.old)
+        (slice_index_or sources.old at d)) }
     ensures ready { (d : Source R) → R.IsReady (slice_index_or sources.new at d).stream }
-    ensures fitting { (d : Source R) → WaitsFitting (O.is_fit order.now) (O.prefix_of order.now) R.shown (slice_index_or sources.new at d) }
+    ensures fitting { (d : Source R) →
+        WaitsFitting (O.is_fit order.now) (O.prefix_of order.now) R.shown
+        (slice_index_or sources.new at d) }
     ensures waits { (d : Source R) → OnOk result ((slice_index_or sources.new at d).given ≡ false) }
     ensures rows { (d : Source R) → OnOk result ((rows : Rows) →
-        yields (O.cmp order.now) (O.is_fit order.now) R.shown R.left (D.told disk.old) (slice_index_or sources.old at d) rows →
+        yields (O.cmp order.now) (O.is_fit order.now) R.shown R.left (D.told disk.old)
+        (slice_index_or sources.old at d) rows →
         yields (O.cmp order.now) (O.is_fit order.now) R.shown R.left (D.told disk.new) (slice_index_or sources.new at d) rows) }
-    ensures later { (d : Source R) → most_of R.shown R.most_left (slice_index_or sources.new at d) ≤ most_of R.shown R.most_left (slice_index_or sources.old at d) }
+    ensures later { (d : Source R) → most_of R.shown R.most_left (slice_index_or sources.new at d)
+        ≤ most_of R.shown R.most_left (slice_index_or sources.old at d) }
     ensures count { length sources.new ≡ length sources.old }
-    ensures same { (i : ℕ) (d : Source R) → i ≢ at → slice_index_or sources.new i d ≡ slice_index_or sources.old i d }
-    ensures segments { (h : ℕ → ℕ → ℕ) (d : Source R) → segment_sum h (R.held (slice_index_or sources.new at d).stream) ≡ segment_sum h (R.held (slice_index_or sources.old at d).stream) }
+    ensures same { (i : ℕ) (d : Source R) → i ≢ at → slice_index_or sources.new i d
+        ≡ slice_index_or sources.old i d }
+    ensures segments { (h : ℕ → ℕ → ℕ) (d : Source R) →
+        segment_sum h (R.held (slice_index_or sources.new at d).stream)
+        ≡ segment_sum h (R.held (slice_index_or sources.old at d).stream) }
     ensures tells { D.told disk.new ≡ D.told disk.old }
     ensures counted { D.given disk.new ≡ D.given disk.old }
     ensures failed { (d : Source R) → OnErr result ((slice_index_or sources.new at d).given ≡ true) }
-    ensures damaged { (block : ℕ) (d : Source R) → IsErrOf result (StreamFault.Damaged block) → block ≡ R.block_read (slice_index_or sources.new at d).stream }
+    ensures damaged { (block : ℕ) (d : Source R) → IsErrOf result (StreamFault.Damaged block) →
+        block ≡ R.block_read (slice_index_or sources.new at d).stream }
     ensures cause { HasStreamCause (D.fault_count disk.old) (D.fault_count disk.new) (D.told disk.old) result }
 {
     fill_one(&mut sources[at], order, disk)
@@ -123,11 +147,13 @@ fn fill_one<D: Spill, R: RecordStream<D>, O: RecordOrder>(
         yields (O.cmp order.now) (O.is_fit order.now) R.shown R.left (D.told disk.old) source.old rows →
         yields (O.cmp order.now) (O.is_fit order.now) R.shown R.left (D.told disk.new) source.new rows) }
     ensures later { most_of R.shown R.most_left source.new ≤ most_of R.shown R.most_left source.old }
-    ensures segments { (h : ℕ → ℕ → ℕ) → segment_sum h (R.held source.new.stream) ≡ segment_sum h (R.held source.old.stream) }
+    ensures segments { (h : ℕ → ℕ → ℕ) → segment_sum h (R.held source.new.stream)
+        ≡ segment_sum h (R.held source.old.stream) }
     ensures tells { D.told disk.new ≡ D.told disk.old }
     ensures counted { D.given disk.new ≡ D.given disk.old }
     ensures failed { OnErr result (source.new.given ≡ true) }
-    ensures damaged { (block : ℕ) → IsErrOf result (StreamFault.Damaged block) → block ≡ R.block_read source.new.stream }
+    ensures damaged { (block : ℕ) → IsErrOf result (StreamFault.Damaged block) →
+        block ≡ R.block_read source.new.stream }
     ensures cause { HasStreamCause (D.fault_count disk.old) (D.fault_count disk.new) (D.told disk.old) result }
 {
     if !source.given {

@@ -63,9 +63,11 @@ impl<D: Spill, R: RecordStream<D>, O: RecordOrder> RecordStream<D> for Merge<'_,
     ghost use Rattle.std.specs.List.{flat_map};
     ghost use Rattle.run_merge.specs.Merging.{Merges, WaitsFitting, block_at, most_of, shown_at, yields};
 
-    ghost left = { λ m told rows. Merges (O.cmp m.order) (yields (O.cmp m.order) (O.is_fit m.order) R.shown R.left told) m.sources rows };
+    ghost left = { λ m told rows. Merges (O.cmp m.order)
+        (yields (O.cmp m.order) (O.is_fit m.order) R.shown R.left told) m.sources rows };
 
-    ghost IsReady = { λ m. All (λ s. R.IsReady s.stream) m.sources × All (WaitsFitting (O.is_fit m.order) (O.prefix_of m.order) R.shown) m.sources };
+    ghost IsReady = { λ m. All (λ s. R.IsReady s.stream) m.sources ×
+        All (WaitsFitting (O.is_fit m.order) (O.prefix_of m.order) R.shown) m.sources };
 
     ghost shown = { λ m. shown_at R.shown m.sources m.shown };
 
@@ -84,19 +86,25 @@ impl<D: Spill, R: RecordStream<D>, O: RecordOrder> RecordStream<D> for Merge<'_,
         ensures ready { All (λ s. R.IsReady s.stream) self.new.sources
             × All (WaitsFitting (O.is_fit self.new.order) (O.prefix_of self.new.order) R.shown) self.new.sources }
         ensures rows { IfOk result (λ more. (rows : Rows) →
-            Merges (O.cmp self.old.order) (yields (O.cmp self.old.order) (O.is_fit self.old.order) R.shown R.left (D.told disk.old)) self.old.sources rows →
+            Merges (O.cmp self.old.order)
+            (yields (O.cmp self.old.order) (O.is_fit self.old.order) R.shown R.left
+            (D.told disk.old)) self.old.sources rows →
             Advances rows more (shown_at R.shown self.new.sources self.new.shown)
             (Merges (O.cmp self.new.order) (yields (O.cmp self.new.order) (O.is_fit self.new.order) R.shown R.left (D.told disk.new)) self.new.sources)) }
         ensures shows { MatchResult result
             (λ more. is_some (shown_at R.shown self.new.sources self.new.shown) ≡ more)
             (λ _. shown_at R.shown self.new.sources self.new.shown ≡ None) }
-        ensures later { sum_by (most_of R.shown R.most_left) self.new.sources ≤ sum_by (most_of R.shown R.most_left) self.old.sources }
-        ensures falls { result ≡ Ok true → sum_by (most_of R.shown R.most_left) self.new.sources < sum_by (most_of R.shown R.most_left) self.old.sources }
+        ensures later { sum_by (most_of R.shown R.most_left) self.new.sources
+            ≤ sum_by (most_of R.shown R.most_left) self.old.sources }
+        ensures falls { result ≡ Ok true →
+            sum_by (most_of R.shown R.most_left) self.new.sources
+            < sum_by (most_of R.shown R.most_left) self.old.sources }
         ensures segments { (h : ℕ → ℕ → ℕ) → segment_sum h (flat_map (λ s. R.held s.stream) self.new.sources)
             ≡ segment_sum h (flat_map (λ s. R.held s.stream) self.old.sources) }
         ensures tells { D.told disk.new ≡ D.told disk.old }
         ensures counted { D.given disk.new ≡ D.given disk.old }
-        ensures damaged { (block : ℕ) → IsErrOf result (StreamFault.Damaged block) → block ≡ block_at R.block_read self.new.sources self.new.shown }
+        ensures damaged { (block : ℕ) → IsErrOf result (StreamFault.Damaged block) →
+            block ≡ block_at R.block_read self.new.sources self.new.shown }
         ensures cause { HasStreamCause (D.fault_count disk.old) (D.fault_count disk.new) (D.told disk.old) result }
         ensures count { length self.new.sources ≡ length self.old.sources }
         ensures room { self.new.room ≡ self.old.room }

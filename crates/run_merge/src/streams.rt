@@ -26,7 +26,7 @@ pub struct Streams<R> {
 }
 
 impl<R> Model for Streams<R> {
-    ghost use Rattle.std.specs.Prelude.{map, vec_len, vec_capacity, length, ◌≡◌, ◌≤◌};
+    ghost use Rattle.std.specs.Prelude.{vec_len, vec_capacity, length, ◌≡◌, ◌≤◌};
     ghost use Rattle.run_merge.specs.Collected.{Collected};
 
     ghost Value = { Collected R };
@@ -64,7 +64,8 @@ impl<R> Streams<R> {
         ensures room { self.new.room ≡ self.old.room }
         ensures last { MatchOption result
             ((self.old.sources ≡ []) × (self.new.sources ≡ []))
-            (λ stream. (source : Source R) × (self.old.sources ≡ self.new.sources ++ source ∷ []) × (source.stream ≡ stream)) }
+            (λ stream. (source : Source R) × (self.old.sources ≡ self.new.sources ++ source ∷ []) ×
+            (source.stream ≡ stream)) }
     {
         match self.items.pop() {
             Some(source) => {
@@ -101,16 +102,25 @@ impl<R> Streams<R> {
         ensures ready { All (λ s. R.IsReady s.stream) self.new.sources }
         ensures fitting { All (WaitsFitting (O.is_fit order.now) (O.prefix_of order.now) R.shown) self.new.sources }
         ensures rows { IfOk result (λ place. (rows : Rows) →
-            Merges (O.cmp order.now) (yields (O.cmp order.now) (O.is_fit order.now) R.shown R.left (D.told disk.old)) self.old.sources rows →
+            Merges (O.cmp order.now)
+            (yields (O.cmp order.now) (O.is_fit order.now) R.shown R.left
+            (D.told disk.old)) self.old.sources rows →
             Advances rows (is_some place) (shown_at R.shown self.new.sources place)
             (Merges (O.cmp order.now) (yields (O.cmp order.now) (O.is_fit order.now) R.shown R.left (D.told disk.new)) self.new.sources)) }
         ensures shows { IfOk result (λ place. is_some (shown_at R.shown self.new.sources place) ≡ is_some place) }
-        ensures later { sum_by (most_of R.shown R.most_left) self.new.sources ≤ sum_by (most_of R.shown R.most_left) self.old.sources }
-        ensures falls { IfOk result (λ place. MatchOption place Unit (λ _. sum_by (most_of R.shown R.most_left) self.new.sources < sum_by (most_of R.shown R.most_left) self.old.sources)) }
+        ensures later { sum_by (most_of R.shown R.most_left) self.new.sources
+            ≤ sum_by (most_of R.shown R.most_left) self.old.sources }
+        ensures falls { IfOk result
+            (λ place. MatchOption place Unit
+            (λ _. sum_by (most_of R.shown R.most_left) self.new.sources
+            < sum_by (most_of R.shown R.most_left) self.old.sources)) }
         ensures room { self.new.room ≡ self.old.room }
         ensures count { length self.new.sources ≡ length self.old.sources }
-        ensures damaged { (block : ℕ) → IsErrOf result (StreamFault.Damaged block) → block ≡ number_of_given R.block_read self.new.sources }
-        ensures segments { (h : ℕ → ℕ → ℕ) → segment_sum h (flat_map (λ s. R.held s.stream) self.new.sources) ≡ segment_sum h (flat_map (λ s. R.held s.stream) self.old.sources) }
+        ensures damaged { (block : ℕ) → IsErrOf result (StreamFault.Damaged block) →
+            block ≡ number_of_given R.block_read self.new.sources }
+        ensures segments { (h : ℕ → ℕ → ℕ) →
+            segment_sum h (flat_map (λ s. R.held s.stream) self.new.sources)
+            ≡ segment_sum h (flat_map (λ s. R.held s.stream) self.old.sources) }
         ensures tells { D.told disk.new ≡ D.told disk.old }
         ensures counted { D.given disk.new ≡ D.given disk.old }
         ensures cause { HasStreamCause (D.fault_count disk.old) (D.fault_count disk.new) (D.told disk.old) result }

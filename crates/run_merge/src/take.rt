@@ -27,17 +27,26 @@ pub(crate) fn take_least<D: Spill, R: RecordStream<D>, O: RecordOrder>(
     ensures ready { All (λ s. R.IsReady s.stream) sources.new }
     ensures fitting { All (WaitsFitting (O.is_fit order.now) (O.prefix_of order.now) R.shown) sources.new }
     ensures rows { IfOk result (λ place. (rows : Rows) →
-        Merges (O.cmp order.now) (yields (O.cmp order.now) (O.is_fit order.now) R.shown R.left (D.told disk.old)) sources.old rows →
+        Merges (O.cmp order.now)
+        (yields (O.cmp order.now) (O.is_fit order.now) R.shown R.left
+        (D.told disk.old)) sources.old rows →
         Advances rows (is_some place) (shown_at R.shown sources.new place)
         (Merges (O.cmp order.now) (yields (O.cmp order.now) (O.is_fit order.now) R.shown R.left (D.told disk.new)) sources.new)) }
     ensures shows { IfOk result (λ place. is_some (shown_at R.shown sources.new place) ≡ is_some place) }
-    ensures later { sum_by (most_of R.shown R.most_left) sources.new ≤ sum_by (most_of R.shown R.most_left) sources.old }
-    ensures falls { IfOk result (λ place. MatchOption place Unit (λ _. sum_by (most_of R.shown R.most_left) sources.new < sum_by (most_of R.shown R.most_left) sources.old)) }
+    ensures later { sum_by (most_of R.shown R.most_left) sources.new
+        ≤ sum_by (most_of R.shown R.most_left) sources.old }
+    ensures falls { IfOk result
+        (λ place. MatchOption place Unit
+        (λ _. sum_by (most_of R.shown R.most_left) sources.new
+        < sum_by (most_of R.shown R.most_left) sources.old)) }
     ensures count { length sources.new ≡ length sources.old }
-    ensures segments { (h : ℕ → ℕ → ℕ) → segment_sum h (flat_map (λ s. R.held s.stream) sources.new) ≡ segment_sum h (flat_map (λ s. R.held s.stream) sources.old) }
+    ensures segments { (h : ℕ → ℕ → ℕ) →
+        segment_sum h (flat_map (λ s. R.held s.stream) sources.new)
+        ≡ segment_sum h (flat_map (λ s. R.held s.stream) sources.old) }
     ensures tells { D.told disk.new ≡ D.told disk.old }
     ensures counted { D.given disk.new ≡ D.given disk.old }
-    ensures damaged { (block : ℕ) → IsErrOf result (StreamFault.Damaged block) → block ≡ number_of_given R.block_read sources.new }
+    ensures damaged { (block : ℕ) → IsErrOf result (StreamFault.Damaged block) →
+        block ≡ number_of_given R.block_read sources.new }
     ensures cause { HasStreamCause (D.fault_count disk.old) (D.fault_count disk.new) (D.told disk.old) result }
 {
     fill(sources, order, disk)?;
@@ -55,14 +64,19 @@ fn take_first<D: Spill, R: RecordStream<D>, O: RecordOrder>(
     ensures ready { All (λ s. R.IsReady s.stream) sources.new }
     ensures fitting { All (WaitsFitting (O.is_fit order.now) (O.prefix_of order.now) R.shown) sources.new }
     ensures rows { (told : Option Blocks) (rows : Rows) →
-        Merges (O.cmp order.now) (yields (O.cmp order.now) (O.is_fit order.now) R.shown R.left told) sources.old rows →
+        Merges (O.cmp order.now)
+        (yields (O.cmp order.now) (O.is_fit order.now) R.shown R.left told) sources.old rows →
         Advances rows (is_some result) (shown_at R.shown sources.new result)
         (Merges (O.cmp order.now) (yields (O.cmp order.now) (O.is_fit order.now) R.shown R.left told) sources.new) }
     ensures shows { is_some (shown_at R.shown sources.new result) ≡ is_some result }
-    ensures later { sum_by (most_of R.shown R.most_left) sources.new ≤ sum_by (most_of R.shown R.most_left) sources.old }
-    ensures falls { MatchOption result Unit (λ _. sum_by (most_of R.shown R.most_left) sources.new < sum_by (most_of R.shown R.most_left) sources.old) }
+    ensures later { sum_by (most_of R.shown R.most_left) sources.new
+        ≤ sum_by (most_of R.shown R.most_left) sources.old }
+    ensures falls { MatchOption result Unit
+        (λ _. sum_by (most_of R.shown R.most_left) sources.new
+        < sum_by (most_of R.shown R.most_left) sources.old) }
     ensures count { length sources.new ≡ length sources.old }
-    ensures segments { (h : ℕ → ℕ → ℕ) → sum_by (λ s. segment_sum h (R.held s.stream)) sources.new ≡ sum_by (λ s. segment_sum h (R.held s.stream)) sources.old }
+    ensures segments { (h : ℕ → ℕ → ℕ) → sum_by (λ s. segment_sum h (R.held s.stream)) sources.new
+        ≡ sum_by (λ s. segment_sum h (R.held s.stream)) sources.old }
 {
     let best = least(sources, order);
     if let Some(place) = best {
