@@ -1,4 +1,4 @@
-ghost use Rattle.std.specs.Prelude.{◌≡◌, ℕ, ◌^◌, ◌≤◌, [], ◌∷◌, ◌++◌, IsTrue, IfOk, OnOk, pos, neg_ℤ};
+ghost use Rattle.std.specs.Prelude.{◌≡◌, ◌^◌, ◌≤◌, [], ◌∷◌, ◌++◌, IsTrue, IfOk, OnOk, pos, neg_ℤ};
 ghost use Rattle.flow_types.specs.declared.value.Value.{Value};
 ghost use Rattle.flow_types.specs.Types.{is_bounded};
 ghost use Rattle.flow_types.specs.Limits.{text_limit};
@@ -72,7 +72,8 @@ fn read_text(alloc: Global, bound: u16, text: &[u8]) -> Result<Text, InputFault>
     }
 }
 
-fn read_bool(text: &[u8]) -> Option<bool>
+/// A Bool: exactly `true` or `false`.
+pub(crate) fn read_bool(text: &[u8]) -> Option<bool>
     ensures { result ≡ bool_value text.now }
 {
     if text == b"true".as_slice() {
@@ -84,7 +85,8 @@ fn read_bool(text: &[u8]) -> Option<bool>
     }
 }
 
-fn read_long(text: &[u8]) -> Option<i64>
+/// A Long: an optional `-` and digits, with a value in range.
+pub(crate) fn read_long(text: &[u8]) -> Option<i64>
     ensures { result ≡ long_value text.now }
 {
     match text {

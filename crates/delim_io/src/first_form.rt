@@ -3,8 +3,7 @@ ghost use Rattle.std.specs.List.{list_all};
 ghost use Rattle.flow_types.specs.Types.{is_bounded};
 ghost use Rattle.flow_types.specs.Tuples.{Tuple};
 ghost use Rattle.packed_rows.specs.Packed.{rows_in, IsPacked};
-ghost use Rattle.delim_io.specs.Fields.{tuple_of};
-ghost use Rattle.delim_io.specs.Input.{is_plain_byte, is_plain_line, parts_at, tuple_of_line, rows_of};
+ghost use Rattle.delim_io.specs.Input.{is_plain_byte, is_plain_line, tuple_of_line, rows_of};
 
 use crate::cut::cut;
 use crate::field::push_value;
@@ -91,7 +90,7 @@ fn is_plain_byte(byte: u8) -> bool
 }
 
 /// Whether a line has a byte and doesn't begin with EF BB BF.
-fn is_plain_line(line: &[u8]) -> bool
+pub(crate) fn is_plain_line(line: &[u8]) -> bool
     ensures { result ≡ is_plain_line line.now }
 {
     match line {

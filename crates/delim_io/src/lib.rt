@@ -11,6 +11,7 @@ mod field;
 pub mod first_form;
 pub mod input_fault;
 pub mod input_kind;
+pub mod line_record;
 pub mod plain_line;
 pub mod result_text;
 pub mod row_writer;
