@@ -163,7 +163,7 @@ class Maker:
         source = self.any_name(names)
         fields, rows = names.seen[source]
         if op == "filter":
-            return {"input": source, "test": self.exprs.of("bool", fields, 3)}, rows
+            return {"input": source, "test": self.test(fields)}, rows
         if op == "map":
             return {"input": source, "columns": self.exprs.columns(fields)}, rows
         kinds = [plans.expr_type(c, fields) for c in self.exprs.columns(fields)]
@@ -171,6 +171,11 @@ class Maker:
                      "columns": [self.exprs.fitting(kind, fields) for kind in kinds]}
                     for _ in range(self.rng.randint(1, 3))]
         return {"input": source, "rows": branches}, rows * len(branches)
+
+    def test(self, fields):
+        """A bool; half of them are of two parts, so that not too many rows are lost."""
+        test = self.exprs.of("bool", fields, 3)
+        return ["or", test, self.exprs.of("bool", fields)] if self.rng.random() < 0.5 else test
 
     def union(self, op, names):
         first = self.any_name(names)
@@ -350,7 +355,7 @@ def value_of(rng, field, delimiter):
 def lines_of(rng, source):
     """A source's input, of the form that is served: no line is empty."""
     delimiter, out = source.get("delimiter", ","), []
-    for _ in range(rng.choice([0, 1, 2, 5, 15, 40])):
+    for _ in range(rng.choice([0, 1, 3, 8, 20, 40, 40])):
         line = delimiter.join(value_of(rng, f, delimiter) for f in source["fields"])
         out.append((line or "a") + "\n")
     return "".join(out)
