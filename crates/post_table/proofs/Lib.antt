@@ -1,0 +1,12 @@
+pub mod PairLemmas
+pub mod LogLemmas
+pub mod StepLemmas
+pub mod MailLemmas
+pub mod SeatLemmas
+pub mod AllowLemmas
+pub mod SumLemmas
+pub mod OpenLemmas
+pub mod CloseLemmas
+pub mod LaneLemmas
+pub mod LedgerLemmas
+pub mod TieLemmas
