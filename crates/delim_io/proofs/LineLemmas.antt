@@ -77,7 +77,7 @@ pub bounded_at : (fields : Fields) (i : ℕ) (f : FieldType) → IsTrue (list_al
 bounded_at fields i f all within = All-get_or (λ x. is_bounded x ≡ true) fields i f within (AllPass-from_list_all is_bounded fields all)
 
 -- a line and the parts behind it, of which there is at least one
-lines_more : (fields : Fields) (delimiter : ℕ) (line : List ℕ) (parts : List (List ℕ)) → 0 < length parts → tuples_of_parts fields delimiter (line ∷ parts) ≡ first_and_others (tuple_of_line fields delimiter line) (tuples_of_parts fields delimiter parts)
+pub lines_more : (fields : Fields) (delimiter : ℕ) (line : List ℕ) (parts : List (List ℕ)) → 0 < length parts → tuples_of_parts fields delimiter (line ∷ parts) ≡ first_and_others (tuple_of_line fields delimiter line) (tuples_of_parts fields delimiter parts)
 lines_more fields delimiter line [] some = absurd (omega arith)
 lines_more fields delimiter line (next ∷ parts) some = refl
 

@@ -1,4 +1,5 @@
 pub mod Fields
 pub mod Input
+pub mod LinesLeft
 pub mod LineWriter
 pub mod ResultText

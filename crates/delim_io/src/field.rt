@@ -1,4 +1,4 @@
-ghost use Rattle.std.specs.Prelude.{◌≡◌, ◌^◌, ◌≤◌, [], ◌∷◌, ◌++◌, IsTrue, IfOk, OnOk, pos, neg_ℤ};
+ghost use Rattle.std.specs.Prelude.{◌≡◌, ℕ, ◌^◌, ◌≤◌, [], ◌∷◌, ◌++◌, IsTrue, IfOk, OnOk, pos, neg_ℤ};
 ghost use Rattle.flow_types.specs.declared.value.Value.{Value};
 ghost use Rattle.flow_types.specs.Types.{is_bounded};
 ghost use Rattle.flow_types.specs.Limits.{text_limit};

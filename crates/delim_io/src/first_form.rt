@@ -3,7 +3,8 @@ ghost use Rattle.std.specs.List.{list_all};
 ghost use Rattle.flow_types.specs.Types.{is_bounded};
 ghost use Rattle.flow_types.specs.Tuples.{Tuple};
 ghost use Rattle.packed_rows.specs.Packed.{rows_in, IsPacked};
-ghost use Rattle.delim_io.specs.Input.{is_plain_byte, is_plain_line, tuple_of_line, rows_of};
+ghost use Rattle.delim_io.specs.Fields.{tuple_of};
+ghost use Rattle.delim_io.specs.Input.{is_plain_byte, is_plain_line, parts_at, tuple_of_line, rows_of};
 
 use crate::cut::cut;
 use crate::field::push_value;
@@ -77,7 +78,7 @@ fn push_line(
 }
 
 /// Whether no byte is a quote or a carriage return.
-fn all_plain(bytes: &[u8]) -> bool
+pub(crate) fn all_plain(bytes: &[u8]) -> bool
     ensures { result ≡ list_all is_plain_byte bytes.now }
 {
     bytes.iter().all(|byte| is_plain_byte(*byte))

@@ -21,7 +21,7 @@ use std::str;
 /// allocated: each field is cut, read and written where it lies.
 pub fn write_record(line: &[u8], schema: &Schema, delimiter: u8, out: &mut [u8]) -> Option<usize>
     requires { record_limit ≤ length out.old }
-    ensures record { MatchOption result
+    ensures row { MatchOption result
         (tuple_of_line schema.now delimiter line.now ≡ None)
         (λ end. (t : Tuple) × (tuple_of_line schema.now delimiter line.now ≡ Some t)
         × (end ≡ size t) × (out.new ≡ form t ++ drop end out.old)) }

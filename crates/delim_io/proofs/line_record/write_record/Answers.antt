@@ -8,8 +8,8 @@ use Rattle.delim_io.proofs.LineLemmas.{line_long, line_short}
 use Rattle.delim_io.proofs.LineRecordLemmas.{IsBuilt, built_last, built_more, some_field}
 use Rattle.delim_io.proofs.line_record.write_record.Goals as goal
 
-pub returns-in_default-clause-record : goal.returns-in_default-clause-record
-returns-in_default-clause-record c =
+pub returns-in_default-clause-row : goal.returns-in_default-clause-row
+returns-in_default-clause-row c =
     line_short c.args.schema.now c.args.delimiter c.args.line.now c.loop-i.invariant.built.values c.loop-i.i c.loop-i.rest.now c.loop-i.invariant.built.taken type.Long
     (omega (arith, c.loop-i-test.true, ap length c.fields-fields.ensures.value)) c.in_default.ensures.parts
 
@@ -24,13 +24,13 @@ loop-i-preserved c =
       space = c.write_field.ensures.space ∙ c.loop-i.invariant.space;
     }
 
-pub returns-in-Some-cut-clause-record : goal.returns-in-Some-cut-clause-record
-returns-in-Some-cut-clause-record c =
+pub returns-in-Some-cut-clause-row : goal.returns-in-Some-cut-clause-row
+returns-in-Some-cut-clause-row c =
     line_long c.args.schema.now c.args.delimiter c.args.line.now c.loop-i.invariant.built.values c.loop-i.i c.loop-i.rest.now c.loop-i.invariant.built.taken type.Long _ _
     (omega (arith, c.loop-i-test.false, c.loop-i.auto.i-end, ap length c.fields-fields.ensures.value, some_field c.args.schema.now c.fields-fields.ensures.limits)) c.in-Some-cut.ensures.parts
 
-pub returns-in-None-cut-clause-record : goal.returns-in-None-cut-clause-record
-returns-in-None-cut-clause-record c =
+pub returns-in-None-cut-clause-row : goal.returns-in-None-cut-clause-row
+returns-in-None-cut-clause-row c =
     let fields = c.fields-fields.result.now in
     let some = some_field c.args.schema.now c.fields-fields.ensures.limits in
     let at : c.loop-i.i ≡ length fields - 1 = omega (arith, c.loop-i-test.false, c.loop-i.auto.i-end) in
