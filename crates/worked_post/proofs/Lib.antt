@@ -1,1 +1,2 @@
 pub mod SwapLemmas
+pub mod CrowdLemmas

@@ -16,3 +16,8 @@ took_out h size v = weigh_out (λ id. h id size) v.posted + weigh_out (λ id. h 
 abbrev pub Swaps : ℕ → View → View → SegmentView → SegmentView → Type 0
 Swaps size old new into back = (h : ℕ → ℕ → ℕ) →
     segment_sum h (back ∷ []) + put_in h size new + took_out h size old ≡ segment_sum h (into ∷ []) + put_in h size old + took_out h size new
+
+-- Nothing was posted by the workers of this view, and nothing taken.
+pub record IsUnused (v : View) : Type 0 where
+  pub posted : v.posted ≡ []
+  pub took : v.took ≡ []
