@@ -58,7 +58,7 @@ pub fn solution_minimum(plan: &Plan) -> u32
 }
 
 /// The most pages that a record behind its length can touch.
-fn reach(plan: &Plan) -> u32
+pub fn reach(plan: &Plan) -> u32
     requires { IsPlan plan.now }
     ensures number { result ≡ reach plan.now }
     ensures bound { result ≤ 6 }

@@ -1,3 +1,4 @@
 pub mod CountLemmas
 pub mod Lifting
+pub mod Outside
 pub mod Swapping

@@ -126,13 +126,13 @@ holds_what_fits size (Some m) p xs from to d fields w low low_to far ready withi
 }
 
 -- the tuples that records are read as are those that they were made of
-read_back : (fields : Fields) (tuples : Tuples) → All (IsTupleOf fields) tuples → map (tuple_of fields) (map form tuples) ≡ tuples
+pub read_back : (fields : Fields) (tuples : Tuples) → All (IsTupleOf fields) tuples → map (tuple_of fields) (map form tuples) ≡ tuples
 read_back fields [] fit = refl
 read_back fields (t ∷ tuples) fit =
     ap (λ u. u ∷ map (tuple_of fields) (map form tuples)) (reads_as_written fields t (form t) (record { tuple = All-head (IsTupleOf fields) t tuples fit; formed = refl }))
     ∙ ap (λ us. t ∷ us) (read_back fields tuples (All-tail (IsTupleOf fields) t tuples fit))
 
-given_is : (fields : Fields) (w : Work) (m : Blocks) (lot : LotView) (tuples : Tuples) → HoldsTuples fields m lot tuples → given fields w (rows_in m lot) ≡ map form (piped w tuples)
+pub given_is : (fields : Fields) (w : Work) (m : Blocks) (lot : LotView) (tuples : Tuples) → HoldsTuples fields m lot tuples → given fields w (rows_in m lot) ≡ map form (piped w tuples)
 given_is fields w m lot tuples holds =
     ap (given fields w) (rows_read m lot (map form tuples) holds.records) ∙ ap (λ ts. map form (piped w ts)) (read_back fields tuples holds.fitting)
 
@@ -149,7 +149,7 @@ gained_rows answer t u fields w input a b holds gives =
         subst (λ rows. Gains a b rows m n) (sym (given_is fields w m input tuples h)) (gains_of m n a b (map form (piped w tuples)) (λ whole_too. g tuples (rows_in m a) h whole_too))
 
 -- All places are touched: a place that is none of them is past the end.
-past_places : (i start count : ℕ) → IsNoneOf i (range_with_len start count) → start ≤ i → start + count ≤ i
+pub past_places : (i start count : ℕ) → IsNoneOf i (range_with_len start count) → start ≤ i → start + count ≤ i
 past_places i start zero none more = omega (arith, more)
 past_places i start (suc count) none more =
     omega (arith, past_places i (start + 1) count none.1 (omega (arith, more, differ i start none.0 more)))

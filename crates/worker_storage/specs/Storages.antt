@@ -1,5 +1,5 @@
 -- A worker's storage as contracts see it, and what its calls keep. The rules are this project's own.
-use Rattle.std.specs.Prelude.{◌≡◌, ℕ, ◌+◌, ◌-◌, ◌/◌, ◌^◌, ◌<◌, ◌≤◌, Bool, List, [], ◌∷◌, ◌++◌, length, map, Option, None, min, Result, IsErrOf}
+use Rattle.std.specs.Prelude.{◌≡◌, ℕ, ◌+◌, ◌-◌, ◌/◌, ◌^◌, ◌<◌, ◌≤◌, Bool, true, List, [], ◌∷◌, ◌++◌, length, map, Option, None, min, Result, IsErrOf}
 use Rattle.std.specs.List.{range_with_len}
 use Rattle.segment_core.specs.Segments.{PurseView}
 use Rattle.flow_outside.specs.Blocks.{Blocks}
@@ -43,6 +43,13 @@ all_places count = range_with_len 0 count
 -- a storage with a lot more, behind the others
 abbrev pub with_lot : LotView → StorageView → StorageView
 with_lot lot view = record { told = view.told; purse = view.purse; lots = view.lots ++ lot ∷ [] }
+
+-- What a call over a lot from outside keeps of a storage: its own lots are the same, and of them with that lot behind them, which
+-- alone is written, `Preserves` holds.
+pub record KeepsOutside {D : Type 0} (told : D → Option Blocks) (before after : Storage D) (lot lot_now : LotView) : Type 0 where
+  pub size : after.size ≡ before.size
+  pub lots : after.lots ≡ before.lots
+  pub preserves : Preserves (with_lot lot (view_of told before)) (with_lot lot_now (view_of told after)) (length before.lots ∷ []) (length before.lots ∷ []) true
 
 -- A record of so many bytes touches no more pages of so many bytes than the reach, wherever it begins.
 abbrev pub IsShort : (size reach count : ℕ) → Type 0

@@ -1,5 +1,5 @@
 -- One record more, and the ends of the loop.
-use Rattle.std.proofs.Common.{Bool, true, false, ℕ, List, ◌∙◌, arith, refl, subst}
+use Rattle.std.proofs.Common.{Bool, ℕ, List, ◌∙◌, arith, refl, subst}
 use Rattle.paged_view.specs.Streams.{Advances}
 use Rattle.lot_store.specs.Lots.{IsLeft}
 use Rattle.worker_storage.proofs.CountLemmas.{counted_all, counted_none, counted_one, known_one, reads_nothing, reads_on}
