@@ -1,0 +1,10 @@
+pub mod PlanFacts
+pub mod Widths
+pub mod Passing
+pub mod Resting
+pub mod Exchanging
+pub mod Loading
+pub mod NewWorkers
+pub mod NodeRows
+pub mod PipeLists
+pub mod Reading
