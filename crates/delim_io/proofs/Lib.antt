@@ -1,4 +1,5 @@
 pub mod FieldLemmas
+pub mod HeldLemmas
 pub mod CutLemmas
 pub mod LineLemmas
 pub mod LineRecordLemmas

@@ -2,15 +2,19 @@
 use Rattle.std.proofs.Common.{◌≡◌, ℕ, zero, suc, ◌+◌, ◌<◌, ◌≤◌, ◌==◌, nat_le, Bool, true, false, ◌&&◌, if◌then◌else◌, List, [], ◌∷◌, ◌++◌, length, take, drop, get_or, Result, Ok, Err, IfOk, Option, Some, None, option_map, refl, sym, ap, subst, ◌∙◌, arith, append_assoc, length-append}
 use Rattle.std.specs.List.{list_all}
 use Rattle.std.proofs.lemmas.Bool.Decides.{nat_tests}
-use Rattle.std.proofs.lemmas.List.{length-take-le, take-append-drop}
+use Rattle.std.proofs.lemmas.List.{length-take-le, take-append-drop, take_at}
 use Rattle.std.proofs.lemmas.List.Splits.{length-slice_split}
 use Rattle.memchr.specs.Find.{IsFirstByte, is_byte}
 use Rattle.flow_outside.specs.Readers.{GivesNext, Reading, behind, left_of}
 use Rattle.flow_outside.specs.Told.{IfTold}
+use Rattle.flow_types.specs.Limits.{record_limit}
+use Rattle.flow_types.specs.Records.{IsTupleOf, form, size, tuple_of}
+use Rattle.flow_types.specs.Tuples.{Tuple}
 use Rattle.flow_types.specs.Types.{Fields}
+use Rattle.record_codec.proofs.RecordLemmas.{is_record_of_read}
 use Rattle.delim_io.specs.Fields.{first_and_others}
 use Rattle.delim_io.specs.Input.{input_limit, is_plain_byte, parts_at, rows_of, tuple_of_line, tuples_of_parts}
-use Rattle.delim_io.specs.LinesLeft.{AdvancesLines, GivesRow, LinesView, ReadsAhead, rows_ahead, rows_left}
+use Rattle.delim_io.specs.LinesLeft.{AdvancesLines, GivesRow, HasRecord, LinesView, ReadsAhead, RisesBelow, rows_ahead, rows_left}
 use Rattle.delim_io.proofs.CutLemmas.{IsCutAt, cut_before}
 use Rattle.delim_io.proofs.LineLemmas.{lines_more, none_after, none_first}
 
@@ -134,11 +138,34 @@ gives_row (Ok more) (Some left) u a b e same reads given =
         record {
           tuple = row.tuple;
           shown = row.shown;
+          read = ap (λ fs. tuple_of fs e.row_bytes) (sym (ap (λ (v : LinesView). v.fields) same)) ∙ row.read;
           rows = same_rows a b left reads.left_now same reads.bytes ∙ row.rows;
         },
       ),
     ) in
     subst (λ (m : Bool). AdvancesLines m a e left u) (sym given.0) here
+
+-- the record at the front of what a row was written over
+pub row_shown : (t : Tuple) (old new rest : List ℕ) (size_of_row count : ℕ) → count ≡ size t → new ≡ form t ++ drop count old → take size_of_row (new ++ rest) ≡ new → take count (take size_of_row (new ++ rest)) ≡ form t
+row_shown t old new rest size_of_row count is written back = ap (take count) (back ∙ written) ∙ take_at (form t) (drop count old) count (sym is)
+
+-- a reader that shows the form of a tuple of its schema has a record
+pub has_record : (lines : LinesView) (t : Tuple) (out rest : List ℕ) → IsTupleOf lines.fields t → lines.row_bytes ≡ form t → out ≡ form t ++ rest → length out ≡ record_limit → HasRecord lines
+has_record lines t out rest tuple shown whole room = record {
+  is = is_record_of_read lines.fields t lines.row_bytes (record { tuple = tuple; formed = shown });
+  short = omega (arith, ap length shown, ap length whole, length-append (form t) rest, room);
+}
+
+-- what holds of each row that is given
+pub where_given : {E : Type 0} (answer : Result Bool E) (P : Type 0) → IfOk answer (λ more. P) → IfOk answer (λ more. more ≡ true → P)
+where_given (Err fault) P given = tt
+where_given (Ok more) P given = λ is. given
+
+-- what was read ahead doesn't change how far the rows reach
+pub where_rises : {E : Type 0} (answer : Result Bool E) (a b e : LinesView) → b ≡ record a { ahead = b.ahead } → IfOk answer (λ more. RisesBelow input_limit b.given e.given)
+    → IfOk answer (λ more. more ≡ true → RisesBelow input_limit a.given e.given)
+where_rises (Err fault) a b e same given = tt
+where_rises (Ok more) a b e same given = λ is. subst (λ (n : ℕ). RisesBelow input_limit n e.given) (ap (λ (v : LinesView). v.given) same) given
 
 -- The first line that is ahead has no row: neither has the input.
 pub no_row : (t u : Option (List ℕ)) (a b : LinesView) → b ≡ record a { ahead = b.ahead } → IfTold t (λ left. ReadsAhead a b left u)

@@ -1,8 +1,9 @@
 -- An input of the first form that is read line by line. The rules are this project's own.
-use Rattle.std.specs.Prelude.{◌≡◌, ◌≢◌, ℕ, ◌+◌, nat_le, Bool, true, false, ◌&&◌, if◌then◌else◌, List, [], ◌++◌, length, Option, Some, None}
+use Rattle.std.specs.Prelude.{◌≡◌, ◌≢◌, ℕ, ◌+◌, ◌<◌, ◌≤◌, nat_le, Bool, true, false, ◌&&◌, if◌then◌else◌, List, [], ◌++◌, length, Option, Some, None}
 use Rattle.std.specs.List.{list_all}
 use Rattle.flow_outside.specs.Readers.{Reading, name_of}
-use Rattle.flow_types.specs.Records.{form}
+use Rattle.flow_types.specs.Limits.{record_limit}
+use Rattle.flow_types.specs.Records.{form, IsRecord, tuple_of}
 use Rattle.flow_types.specs.Tuples.{Tuple}
 use Rattle.flow_types.specs.Types.{Fields}
 use Rattle.delim_io.specs.Fields.{first_and_others}
@@ -27,10 +28,22 @@ pub record LinesView : Type 0 where
 abbrev pub rows_ahead : LinesView → (left : List ℕ) → Option (List Tuple)
 rows_ahead lines left = rows_left lines.fields lines.delimiter lines.given (lines.ahead ++ left)
 
--- A row was given: the first of those that were left. The others are left.
+-- The reader has the record of a row of its schema.
+pub record HasRecord (lines : LinesView) : Type 0 where
+  pub is : IsRecord lines.fields lines.row_bytes
+  pub short : length lines.row_bytes ≤ record_limit
+
+-- A count rises, and not past a limit: a measure for whoever reads to the end.
+pub record RisesBelow (limit old new : ℕ) : Type 0 where
+  pub rises : old < new
+  pub below : new ≤ limit
+
+-- A row was given: the first of those that were left. The others are left. The reader has its record, which is read
+-- as that row.
 pub record GivesRow (before after : LinesView) (left left_now : List ℕ) : Type 0 where
   pub tuple : Tuple
   pub shown : after.row_bytes ≡ form tuple
+  pub read : tuple_of before.fields after.row_bytes ≡ tuple
   pub rows : rows_ahead before left ≡ first_and_others (Some tuple) (rows_ahead after left_now)
 
 -- What an advance makes of the bytes that were left, where these are told: it gives a row, or none is left.

@@ -5,7 +5,7 @@ ghost use Rattle.flow_outside.specs.Told.{IfTold};
 ghost use Rattle.memchr.specs.Find.{IsFirstByte, is_byte};
 ghost use Rattle.flow_types.specs.Types.{Fields};
 ghost use Rattle.delim_io.specs.Input.{input_limit, parts_at, rows_of};
-ghost use Rattle.delim_io.specs.LinesLeft.{AdvancesLines, GivesRow, ReadsAhead, StaysOpen, rows_ahead, rows_left};
+ghost use Rattle.delim_io.specs.LinesLeft.{AdvancesLines, GivesRow, HasRecord, ReadsAhead, RisesBelow, StaysOpen, rows_ahead, rows_left};
 
 use crate::first_form::{INPUT_LIMIT, all_plain};
 use crate::input_kind::InputKind;
@@ -109,16 +109,17 @@ impl LineReader {
     }
 
     /// Reads on to the next row, whose record it then has: false exactly at the end, and then reader `id` of
-    /// the shelf has ended. `Bad` exactly where what is left isn't of the first form, with line 0, field 0 and
-    /// `NotBuilt`. After false or a fault it isn't called again.
+    /// the shelf has ended. Each row ends within the first `INPUT_LIMIT` bytes. `Bad` exactly where what is left
+    /// isn't of the first form, with line 0, field 0 and `NotBuilt`. After false or a fault it isn't called again.
     pub fn advance<S: Shelf>(&mut self, shelf: &mut S, id: u32) -> Result<bool, LineFault>
         requires { Lives (S.readers shelf.old) id }
         ensures rows { IfOk result (λ more. IfTold (left_of (S.readers shelf.old id)) (λ left.
             AdvancesLines more self.old self.new left (left_of (S.readers shelf.new id)))) }
+        ensures record { IfOk result (λ more. more ≡ true → HasRecord self.new) }
+        ensures rises { IfOk result (λ more. more ≡ true → RisesBelow input_limit self.old.given self.new.given) }
         ensures bad { (line field : ℕ) (kind : InputKind) → IsErrOf result (LineFault.Bad line field kind) →
-            IfTold (left_of (S.readers shelf.old id)) (λ left. rows_ahead self.old left ≡ None) }
-        ensures place { (line field : ℕ) (kind : InputKind) → IsErrOf result (LineFault.Bad line field kind) →
-            (line ≡ 0) × (field ≡ 0) × (kind ≡ InputKind.NotBuilt) }
+            ((line ≡ 0) × (field ≡ 0) × (kind ≡ InputKind.NotBuilt))
+            × IfTold (left_of (S.readers shelf.old id)) (λ left. rows_ahead self.old left ≡ None) }
         ensures cause { result ≡ Err LineFault.Read → let name = name_of (S.readers shelf.old id) in
             Rose (S.faults_at shelf.old name) (S.faults_at shelf.new name) }
         ensures open { IfOk result (λ more. StaysOpen more (S.readers shelf.old id)
@@ -145,11 +146,16 @@ impl LineReader {
     fn give_line(&mut self, at: usize) -> Result<bool, LineFault>
         requires { IsFirstByte (is_byte 10) self.old.ahead (Some at) }
         ensures row { IfOk result (λ more. (more ≡ true) × ((left : List ℕ) → GivesRow self.old self.new left left)) }
+        ensures record { IfOk result (λ more. HasRecord self.new) }
+        ensures rises { IfOk result (λ more. RisesBelow input_limit self.old.given self.new.given) }
         ensures refused { IsErr result → (left : List ℕ) → rows_ahead self.old left ≡ None }
         ensures fault { (fault : LineFault) → IsErrOf result fault → fault ≡ LineFault.Bad 0 0 InputKind.NotBuilt }
         ensures own { (self.new.fields ≡ self.old.fields) × (self.new.delimiter ≡ self.old.delimiter) }
     {
         let end = self.start + at;
+        if end >= INPUT_LIMIT {
+            return Err(not_built());
+        }
         let line = &self.ahead[self.start..end];
         if !all_plain(line) {
             return Err(not_built());

@@ -1,8 +1,8 @@
-ghost use Rattle.std.specs.Prelude.{◌≡◌, ◌+◌, ◌≤◌, ◌++◌, length, take, drop, IsTrue, MatchOption, Some, None};
+ghost use Rattle.std.specs.Prelude.{◌≡◌, ◌+◌, ◌≤◌, ◌++◌, length, take, drop, IsTrue, MatchOption, IfSome, Some, None};
 ghost use Rattle.flow_types.specs.declared.value.Value.{Value};
 ghost use Rattle.flow_types.specs.declared.value.Value.TheVariants as value;
 ghost use Rattle.flow_types.specs.Limits.{record_limit, text_limit};
-ghost use Rattle.flow_types.specs.Records.{form, size, value_form};
+ghost use Rattle.flow_types.specs.Records.{form, size, value_form, IsTupleOf};
 ghost use Rattle.flow_types.specs.Tuples.{Tuple};
 ghost use Rattle.flow_types.specs.Types.{is_bounded, width};
 ghost use Rattle.delim_io.specs.Fields.{field_value, text_value};
@@ -17,14 +17,16 @@ use record_codec::encode::write_bytes;
 use std::str;
 
 /// Writes the record of a line's row at the front of `out`, and gives its length: `None` exactly where the
-/// line isn't one of the first form, and then what stands there is open. No row is made and nothing is
-/// allocated: each field is cut, read and written where it lies.
+/// line isn't one of the first form, and then what stands there is open. The row is one of the schema. No row
+/// is made and nothing is allocated: each field is cut, read and written where it lies.
 pub fn write_record(line: &[u8], schema: &Schema, delimiter: u8, out: &mut [u8]) -> Option<usize>
     requires { record_limit ≤ length out.old }
     ensures row { MatchOption result
         (tuple_of_line schema.now delimiter line.now ≡ None)
         (λ end. (t : Tuple) × (tuple_of_line schema.now delimiter line.now ≡ Some t)
         × (end ≡ size t) × (out.new ≡ form t ++ drop end out.old)) }
+    ensures tuple { IfSome result (λ end. (t : Tuple)
+        → tuple_of_line schema.now delimiter line.now ≡ Some t → IsTupleOf schema.now t) }
     ensures space { length out.new ≡ length out.old }
 {
     if !is_plain_line(line) {

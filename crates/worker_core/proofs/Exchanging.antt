@@ -49,6 +49,12 @@ module _ {D : Type 0} (told : D → Option Blocks) (plan : Plan) (rules : IsPlan
     | inr far ↦ subst (λ l. IfTold (told w.storage.disk) (HoldsSome x.schema l)) (sym (there x.number d far)) (one_node plan.nodes w.storage.lots (told w.storage.disk) x d found sound.holds)
   ]
 
+  bare_still : (d : LotView) → (lot_at placed.storage.lots plan.result d).stored.room ≡ 0
+  bare_still d = elim (cases_eq plan.result number) [
+    | inl is ↦ subst (λ k. (lot_at placed.storage.lots k d).stored.room ≡ 0) (sym is) (ap (λ (l : LotView). l.stored.room) (here d) ∙ may.room)
+    | inr far ↦ ap (λ (l : LotView). l.stored.room) (there plan.result d far) ∙ sound.worker.bare d
+  ]
+
   pub placed_sound : IsSound told plan placed
   placed_sound = record {
     worker = record {
@@ -56,6 +62,7 @@ module _ {D : Type 0} (told : D → Option Blocks) (plan : Plan) (rules : IsPlan
       size = sound.worker.size;
       reach = at_each (λ i l. l.feed.reach ≡ reach plan) sound.worker.reach may.reach;
       rests = at_each (λ i l. length (held l) ≤ l.stored.room) sound.worker.rests (omega (arith, ap (λ (s : List _). length s) may.none));
+      bare = bare_still;
       budget = omega (arith, sound.worker.budget, sum_by-set (λ (l : LotView). l.stored.room) w.storage.lots number lot lot place_low, sum_by-set (λ (l : LotView). length (held l)) w.storage.lots number lot lot place_low, may.room, sound.worker.rests number lot place_low);
       pipes = sound.worker.pipes;
     };

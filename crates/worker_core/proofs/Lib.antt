@@ -3,8 +3,9 @@ pub mod Widths
 pub mod Passing
 pub mod Resting
 pub mod Exchanging
-pub mod Loading
 pub mod NewWorkers
 pub mod NodeRows
 pub mod PipeLists
 pub mod Reading
+pub mod Storing
+pub mod Ending

@@ -130,6 +130,7 @@ module _ {D : Type 0} (told : D → Option Blocks) (plan : Plan) (rules : IsPlan
           | inr away ↦ subst (λ (lot : LotView). length (held lot) ≤ lot.stored.room) (sym (keeps.preserves.same i d (away, (far, tt)))) (sound.worker.rests i d (omega (arith, low, keeps.preserves.count)))
         ]
       ];
+      bare = λ d. keeps.preserves.rooms plan.result d ∙ sound.worker.bare d;
       budget = budget_kept (view_of told w.storage) (view_of told s) (from ∷ to ∷ []) (to ∷ []) true (work_minimum plan) keeps.preserves sound.worker.budget;
       pipes = sound.worker.pipes;
     }

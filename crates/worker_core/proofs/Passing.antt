@@ -33,7 +33,7 @@ piped_none (work.Filter test) = refl
 piped_none (work.FlatMap branches) = refl
 
 -- The rows of a schema that a lot holds are those that its records are read as.
-rows_are : (fields : Fields) (m : Blocks) (lot : LotView) (rows : Tuples) → HoldsTuples fields m lot rows → tuples_in fields (Some m) lot ≡ rows
+pub rows_are : (fields : Fields) (m : Blocks) (lot : LotView) (rows : Tuples) → HoldsTuples fields m lot rows → tuples_in fields (Some m) lot ≡ rows
 rows_are fields m lot rows holds = ap (map (tuple_of fields)) (rows_read m lot (map form rows) holds.records) ∙ read_back fields rows holds.fitting
 
 -- A lot that wasn't written holds what it held.

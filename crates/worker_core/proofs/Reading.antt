@@ -65,6 +65,7 @@ module _ {D : Type 0} (told : D → Option Blocks) (plan : Plan) (rules : IsPlan
           | inl at ↦ subst (λ k. length (held (lot_at s.lots k d)) ≤ (lot_at s.lots k d).stored.room) (sym at) (rests d)
           | inr far ↦ subst (λ (lot : LotView). length (held lot) ≤ lot.stored.room) (sym (keeps.preserves.same i d (far, tt))) (sound.worker.rests i d (omega (arith, low, keeps.preserves.count)))
         ];
+        bare = λ d. keeps.preserves.rooms plan.result d ∙ sound.worker.bare d;
         budget = budget_kept (view_of told w.storage) (view_of told s) (number ∷ []) [] true (work_minimum plan) keeps.preserves sound.worker.budget;
         pipes = sound.worker.pipes;
       };

@@ -46,7 +46,7 @@ segment_large n h = grind (arith, nat_tests)
 distribute : (c y : ℕ) → (c + 1) * y ≡ c * y + y
 distribute c y = omega arith
 
-touched_low : (size bytes most : ℕ) → 16 < size → bytes ≤ most → most_touched size bytes ≤ div_ceil (most + 4) (size - 16) + 1
+pub touched_low : (size bytes most : ℕ) → 16 < size → bytes ≤ most → most_touched size bytes ≤ div_ceil (most + 4) (size - 16) + 1
 touched_low size bytes most large less =
     let y = size - 16 in
     let some : 0 < y = omega (arith, large) in

@@ -1,5 +1,5 @@
 -- A worker as contracts see it, the rows that it holds of each node, and what its calls keep. The rules are this project's own.
-use Rattle.std.specs.Prelude.{◌≡◌, ◌≢◌, ℕ, suc, ◌<◌, ◌≤◌, true, List, [], ◌++◌, length, map, slice_get, slice_index_or, Option, Some, None, IsSome, Result, IsErrOf}
+use Rattle.std.specs.Prelude.{◌≡◌, ◌≢◌, ℕ, suc, ◌<◌, ◌≤◌, true, List, [], ◌∷◌, ◌++◌, length, map, slice_get, slice_index_or, slice_set, Option, Some, None, IsSome, Result, IsErrOf}
 use Rattle.std.specs.List.{flat_map}
 use Rattle.segment_core.specs.Segments.{PurseView, count_other_size}
 use Rattle.flow_outside.specs.Blocks.{Blocks, BothTold, IsLive}
@@ -8,7 +8,8 @@ use Rattle.flow_outside.specs.Told.{IfTold}
 use Rattle.flow_outside.specs.declared.failure.StreamFault.{StreamFault}
 use Rattle.flow_outside.specs.declared.failure.StreamFault.TheVariants as fault
 use Rattle.flow_types.specs.Types.{Fields, widest}
-use Rattle.flow_types.specs.Records.{tuple_of}
+use Rattle.flow_types.specs.Records.{IsRecord, tuple_of}
+use Rattle.flow_types.specs.Limits.{record_limit}
 use Rattle.flow_model.specs.declared.op.Op.{Op}
 use Rattle.flow_model.specs.declared.op.Op.TheVariants as op
 use Rattle.flow_model.specs.declared.plan.Node.{Node}
@@ -19,13 +20,14 @@ use Rattle.flow_model.specs.Rules.{IsPlan, node_at, references}
 use Rattle.flow_model.specs.Segments.{minimum, reach, work_minimum}
 use Rattle.plan_need.specs.Allotments.{allotment}
 use Rattle.plan_need.specs.declared.budget.Allot.{Allot}
+use Rattle.lot_store.specs.LotCalls.{IsSupplied}
 use Rattle.lot_store.specs.Lots.{LotView, empty, held}
 use Rattle.lot_store.specs.Rows.{rows_of}
-use Rattle.lot_store.specs.Storage.{HasBudget, IsReadyAt, held_sum, lot_at, owners}
+use Rattle.lot_store.specs.Storage.{HasBudget, IsReadyAt, Stand, held_sum, lot_at, owners}
 use Rattle.row_pipe.specs.declared.row_pipe.RowPipe.{RowPipe}
 use Rattle.row_pipe.specs.Works.{GivesNarrow, piped, taken_of, work_of}
 use Rattle.row_pipe.specs.declared.work.Work.{Work}
-use Rattle.worker_storage.specs.Storages.{FreesAll, HoldsSome, KeepsOutside, KeepsStorage, Storage, view_of, with_lot}
+use Rattle.worker_storage.specs.Storages.{FreesAll, HoldsSome, KeepsStorage, Storage, view_of, with_lot}
 
 -- A worker is seen as its number, how many there are, its storage, in which the lot at a node's number has the rows that it holds
 -- of that node, and by the nodes' numbers what it does with rows one by one. The place 0 is no node's.
@@ -78,13 +80,14 @@ abbrev pub HasPipes : List Node → List (Option RowPipe) → Type 0
 HasPipes nodes pipes = (node : Node) → node_at nodes node.number ≡ Some node → IsSome (work_of node.op) → HasPipe pipes node
 
 -- It is a worker of a plan, whatever its disk tells and whatever was answered: it has a lot for each node and one more, its
--- segments have the plan's size, each record of a node touches as few pages as each lot takes, each lot rests, where all rest the
--- purse has what an operator needs, and each node that goes row by row has its pipe.
+-- segments have the plan's size, each record of a node touches as few pages as each lot takes, each lot rests, the result's keeps no
+-- pages in segments, where all rest the purse has what an operator needs, and each node that goes row by row has its pipe.
 pub record IsWorkerOf {D : Type 0} (told : D → Option Blocks) (plan : Plan) (w : WorkerView D) : Type 0 where
   pub count : length w.storage.lots ≡ suc (length plan.nodes)
   pub size : w.storage.size ≡ plan.segment
   pub reach : (i : ℕ) (d : LotView) → i < length w.storage.lots → (lot_at w.storage.lots i d).feed.reach ≡ reach plan
   pub rests : (i : ℕ) (d : LotView) → i < length w.storage.lots → length (held (lot_at w.storage.lots i d)) ≤ (lot_at w.storage.lots i d).stored.room
+  pub bare : (d : LotView) → (lot_at w.storage.lots plan.result d).stored.room ≡ 0
   pub budget : HasBudget (work_minimum plan) (view_of told w.storage)
   pub pipes : HasPipes plan.nodes w.pipes
 
@@ -135,7 +138,7 @@ pub record TakesFrom (nodes : List Node) (number from : ℕ) : Type 0 where
 
 -- Why a call that reads lots and writes one ended early: `Spill` only where the disk's count rose, `Damaged` only over a disk that
 -- doesn't tell, and then with the block that was read last of one of the lots.
-pub record HasStageCause {D : Type 0} (before now : ℕ) (told : Option Blocks) (after : Storage D) (answer : Result Unit StreamFault) : Type 0 where
+pub record HasStageCause {D T : Type 0} (before now : ℕ) (told : Option Blocks) (after : Storage D) (answer : Result T StreamFault) : Type 0 where
   pub cause : HasStreamCause before now told answer
   pub damaged : (block : ℕ) → IsErrOf answer (fault.Damaged block) → (from : ℕ) × (block ≡ (lot_at after.lots from (empty 0 0)).read_last)
 
@@ -189,30 +192,52 @@ pub record MayTakeItsPlace {D : Type 0} (told : D → Option Blocks) (plan : Pla
   pub found : node_at plan.nodes number ≡ Some node
   pub holds : IfTold (told w.storage.disk) (HoldsSome node.schema lot)
 
--- A lot took the place of a node's: its rows are held of the node, what is held of each other number is the same, and so are the
--- purse, the disk and what else a worker is.
+-- A lot took the place of a node's: its rows are held of the node, what is held of each other number is the same, and so are all other
+-- lots, the purse, the disk and what else a worker is.
 pub record TakesItsPlace {D : Type 0} (told : D → Option Blocks) (nodes : List Node) (number : ℕ) (lot : LotView) (before after : WorkerView D) : Type 0 where
   pub rows : (node : Node) → node_at nodes number ≡ Some node → worker_rows told nodes after number ≡ tuples_in node.schema (told before.storage.disk) lot
   pub others : (n : ℕ) → n ≢ number → worker_rows told nodes after n ≡ worker_rows told nodes before n
-  pub rest : after ≡ record before { storage = record before.storage { lots = after.storage.lots } }
+  pub rest : after ≡ record before { storage = record before.storage { lots = slice_set before.storage.lots number lot } }
 
--- A call over a lot from outside keeps a worker but for its purse and its disk.
-pub record KeepsBesideLot {D : Type 0} (told : D → Option Blocks) (before after : WorkerView D) (lot lot_now : LotView) : Type 0 where
-  pub me : after.me ≡ before.me
-  pub workers : after.workers ≡ before.workers
-  pub pipes : after.pipes ≡ before.pipes
-  pub storage : KeepsOutside told before.storage after.storage lot lot_now
+-- A worker's lot of one number is being filled: it is a worker of the plan, but for that lot, which may hold an open page.
+pub record IsBeingFilled {D : Type 0} (told : D → Option Blocks) (plan : Plan) (number : ℕ) (w : WorkerView D) : Type 0 where
+  pub count : length w.storage.lots ≡ suc (length plan.nodes)
+  pub size : w.storage.size ≡ plan.segment
+  pub reach : (i : ℕ) (d : LotView) → i < length w.storage.lots → (lot_at w.storage.lots i d).feed.reach ≡ reach plan
+  pub rests : (i : ℕ) (d : LotView) → i < length w.storage.lots → i ≢ number → length (held (lot_at w.storage.lots i d)) ≤ (lot_at w.storage.lots i d).stored.room
+  pub bare : (d : LotView) → (lot_at w.storage.lots plan.result d).stored.room ≡ 0
+  pub budget : HasBudget (work_minimum plan) (view_of told w.storage)
+  pub pipes : HasPipes plan.nodes w.pipes
 
--- A lot from outside was written by calls of a worker, and holds no segment before and afterwards.
-pub record WasLoaded {D : Type 0} (told : D → Option Blocks) (plan : Plan) (before after : WorkerView D) (lot lot_now : LotView) : Type 0 where
-  pub rules : IsPlan plan
-  pub stands : IsReadyAt before.storage.size (with_lot lot (view_of told before.storage))
-  pub keeps : KeepsBesideLot told before after lot lot_now
-  pub none : held lot ≡ []
-  pub none_now : held lot_now ≡ []
+-- It may be filled on: there is a segment to write into, and where the disk tells, the worker's lots hold rows of their nodes' schemas.
+pub record IsFilling {D : Type 0} (told : D → Option Blocks) (plan : Plan) (number : ℕ) (w : WorkerView D) : Type 0 where
+  pub filled : IsBeingFilled told plan number w
+  pub supply : (d : LotView) → IsSupplied w.storage.purse (lot_at w.storage.lots number d)
+  pub holds : IfTold (told w.storage.disk) (HoldsNodes plan.nodes w.storage.lots)
 
--- The law of loading: the worker is then as sound as it was, and holds the same rows.
-pub record LoadingKeepsRows {D : Type 0} (told : D → Option Blocks) : Type 0 where
-  pub sound : (plan : Plan) (before after : WorkerView D) (lot lot_now : LotView) → WasLoaded told plan before after lot lot_now → IsSound told plan before → IsSound told plan after
-  pub rows : (plan : Plan) (before after : WorkerView D) (lot lot_now : LotView) → WasLoaded told plan before after lot lot_now → IsSound told plan before
-      → (n : ℕ) → worker_rows told plan.nodes after n ≡ worker_rows told plan.nodes before n
+-- Bytes are the record of a row of a node's schema.
+pub record IsRowOf (plan : Plan) (number : ℕ) (bytes : List ℕ) : Type 0 where
+  pub node : Node
+  pub found : node_at plan.nodes number ≡ Some node
+  pub is : IsRecord node.schema bytes
+  pub short : length bytes ≤ record_limit
+
+-- A row was stored: it stands behind those that were held of the number, and what is held of each other number is the same.
+pub record Stores {D : Type 0} (told : D → Option Blocks) (nodes : List Node) (number : ℕ) (bytes : List ℕ) (before after : WorkerView D) : Type 0 where
+  pub stored : (node : Node) → node_at nodes number ≡ Some node → worker_rows told nodes after number ≡ worker_rows told nodes before number ++ tuple_of node.schema bytes ∷ []
+  pub others : (n : ℕ) → n ≢ number → worker_rows told nodes after n ≡ worker_rows told nodes before n
+
+-- What is held of each number is the same.
+abbrev pub HoldsTheSame : {D : Type 0} → (D → Option Blocks) → List Node → (before after : WorkerView D) → Type 0
+HoldsTheSame told nodes before after = (n : ℕ) → worker_rows told nodes after n ≡ worker_rows told nodes before n
+
+-- A lot beside a worker's stays when the worker has ended: on its disk it stands alone, and where it held rows of a schema, it holds the
+-- same.
+pub record StaysBeside {D : Type 0} (told : D → Option Blocks) (before : Storage D) (disk_now : D) (lot : LotView) : Type 0 where
+  pub stands : IfTold (told disk_now) (Stand before.size [] (lot ∷ []))
+  pub same : (fields : Fields) → IfTold (told before.disk) (HoldsSome fields lot) → IfTold (told disk_now) (HoldsSome fields lot) × (tuples_in fields (told disk_now) lot ≡ tuples_in fields (told before.disk) lot)
+
+-- So it is of each lot that stands together with the worker's and holds no segment.
+abbrev pub SparesBeside : {D : Type 0} → (D → Option Blocks) → (before : Storage D) → (disk_now : D) → Type 0
+SparesBeside told before disk_now =
+    (lot : LotView) → held lot ≡ [] → IsReadyAt before.size (with_lot lot (view_of told before)) → StaysBeside told before disk_now lot

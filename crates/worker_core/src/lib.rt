@@ -5,7 +5,6 @@
 //! the node's op makes of what it holds of the node's inputs, keeps all else, and takes no memory.
 #![tactic(auto)]
 
-pub mod laws;
 mod opening;
 mod staging;
 pub mod worker;

@@ -1,5 +1,5 @@
 //! What a worker opens, and what it ends.
-ghost use Rattle.std.specs.Prelude.{◌≡◌, ℕ, ◌+◌, [], All, IfOk, IsSome, length, replicate};
+ghost use Rattle.std.specs.Prelude.{◌≡◌, ◌<◌, [], All, IfOk, IsSome, replicate, slice_index_or, slice_set, vec_len};
 ghost use Rattle.flow_model.specs.Rules.{IsPlan};
 ghost use Rattle.lot_store.specs.Lots.{LotView, empty, held};
 ghost use Rattle.row_pipe.specs.Laws.{MayBeOpened};
@@ -12,6 +12,7 @@ use flow_outside::failure::Memory;
 use lot_store::lot::Lot;
 use row_pipe::row_pipe::RowPipe;
 use std::alloc::Global;
+use std::mem;
 
 /// So many lots that hold nothing.
 pub(crate) fn open_lots(
@@ -33,6 +34,40 @@ pub(crate) fn open_lots(
         }
     }
     Ok(lots)
+}
+
+/// The same, of which the one at a place keeps no pages.
+pub(crate) fn open_places(
+    alloc: Global,
+    count: u32,
+    room: u32,
+    reach: u32,
+    bare: u32,
+) -> Result<Vec<Lot>, Memory>
+    requires { bare < count }
+    ensures { IfOk result (λ lots. lots.items ≡ slice_set (replicate count (empty room reach)) bare
+        (empty 0 reach)) }
+{
+    let mut lots = open_lots(alloc, count, room, reach)?;
+    match Lot::open(alloc, 0, reach) {
+        Ok(lot) => {
+            put_at(&mut lots, bare, lot).end();
+            Ok(lots)
+        }
+        Err(fault) => {
+            end_lots(lots);
+            Err(fault)
+        }
+    }
+}
+
+/// Puts a lot in the place of one, which it gives.
+fn put_at(lots: &mut Vec<Lot>, at: u32, lot: Lot) -> Lot
+    requires { at < vec_len lots.old }
+    ensures placed { lots.new.items ≡ slice_set lots.old.items at lot }
+    ensures given { (d : LotView) → result ≡ slice_index_or lots.old.items at d }
+{
+    mem::replace(&mut lots[at as usize], lot)
 }
 
 /// Ends lots that hold no segment.

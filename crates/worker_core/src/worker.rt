@@ -1,4 +1,4 @@
-ghost use Rattle.std.specs.Prelude.{◌≡◌, ℕ, ◌+◌, ◌-◌, ◌^◌, ◌<◌, ◌≤◌, [], ◌∷◌, true};
+ghost use Rattle.std.specs.Prelude.{◌≡◌, ℕ, ◌+◌, ◌-◌, ◌^◌, ◌<◌, [], ◌∷◌};
 ghost use Rattle.std.specs.Prelude.{IfErr, IfOk, OnOk, Some, IsSome, length, min};
 ghost use Rattle.segment_core.specs.Segments.{segment_sum};
 ghost use Rattle.std.specs.Option.{option_copied};
@@ -6,16 +6,12 @@ ghost use Rattle.flow_model.specs.declared.plan.Node.{Node};
 ghost use Rattle.flow_model.specs.declared.plan.Plan.{Plan};
 ghost use Rattle.flow_model.specs.Rules.{IsPlan, node_at, references};
 ghost use Rattle.model_laws.specs.LawsOfPlanFits.{StatesValues};
-ghost use Rattle.flow_outside.specs.Blocks.{BothTold};
-ghost use Rattle.flow_outside.specs.Causes.{HasStreamCause};
 ghost use Rattle.flow_outside.specs.Told.{IfTold};
-ghost use Rattle.lot_store.specs.LotCalls.{IsSupplied};
-ghost use Rattle.lot_store.specs.Lots.{LotView, held};
-ghost use Rattle.lot_store.specs.Rows.{Gains};
+ghost use Rattle.lot_store.specs.Lots.{LotView};
 ghost use Rattle.lot_store.specs.Storage.{IsReadyAt, held_sum, lot_at};
 ghost use Rattle.spool.specs.Spilling.{HasWriteCause};
-ghost use Rattle.worker_storage.specs.Storages.{IsShort, KeepsStorage, view_of, with_lot};
-ghost use Rattle.worker_core.specs.Workers.{KeepsBesideLot, MayTakeItsPlace, TakesItsPlace};
+ghost use Rattle.worker_storage.specs.Storages.{view_of, with_lot};
+ghost use Rattle.worker_core.specs.Workers.{HoldsNodes, HoldsTheSame, IsBeingFilled, IsFilling, IsRowOf, MayTakeItsPlace, SparesBeside, Stores, TakesItsPlace};
 ghost use Rattle.worker_core.specs.Workers.{worker_rows};
 ghost use Rattle.row_pipe.specs.Works.{work_of};
 ghost use Rattle.row_pipe.specs.declared.work.Work.{Work};
@@ -24,7 +20,7 @@ ghost use Rattle.worker_core.specs.Workers.{IsShareOf, IsSound};
 ghost use Rattle.worker_core.specs.Workers.{IsWorkerOf, KeepsWorker, LeavesDisk, PassesOn};
 ghost use Rattle.worker_core.specs.Workers.{StagesAll, Stages, TakesFrom};
 
-use crate::opening::{end_lots, open_lots, open_pipes};
+use crate::opening::{end_lots, open_pipes, open_places};
 use crate::staging::pipe_to_rest;
 use expr_core::scratch::Scratch;
 use flow_model::op::Op;
@@ -86,7 +82,8 @@ impl<D: Spill> Worker<D> {
     /// A worker of a plan, with its share of the segments and a disk of its own. It holds no rows.
     /// All memory that a worker needs is taken here: a scratch of 589,824 bytes, a copy of the
     /// expressions of each node that goes row by row, and 96 bytes for each segment that keeps
-    /// datasets. Where there isn't so much, the purse and the disk come back.
+    /// datasets. Where there isn't so much, the purse and the disk come back. The lot of the result
+    /// keeps no pages, so that its rows stay where the worker ends.
     pub fn open(
         alloc: Global,
         plan: &Plan,
@@ -109,7 +106,8 @@ impl<D: Spill> Worker<D> {
             return Err(WorkerMemory { purse, disk });
         };
         let count = plan.nodes.as_slice().len() as u32 + 1;
-        let Ok(lots) = open_lots(alloc, count, allot.cache / count, reach(plan)) else {
+        let room = allot.cache / count;
+        let Ok(lots) = open_places(alloc, count, room, reach(plan), plan.result) else {
             return Err(WorkerMemory { purse, disk });
         };
         // The purse has room for what it holds, for the prover alone.
@@ -134,6 +132,7 @@ impl<D: Spill> Worker<D> {
             segment_sum h self.storage.purse.pages + held_sum h self.storage.lots }
         ensures disk { LeavesDisk (D.fault_count self.storage.disk) (D.fault_count result.disk)
             (D.told self.storage.disk) (D.told result.disk) self.storage.lots }
+        ensures beside { SparesBeside D.told self.storage result.disk }
     {
         let Worker {
             me: _,
@@ -148,87 +147,99 @@ impl<D: Spill> Worker<D> {
         WorkerEnd { purse, disk }
     }
 
-    /// Puts a lot in the place of a node's, which it gives: the rows of a source, which were
-    /// loaded into a lot of their own. The lot stands together with those of the worker, and the
-    /// one that goes then does.
-    pub fn put_lot(&mut self, node: u32, mut lot: Lot) -> Lot
-        ghost plan: { Plan }
-        requires rules { IsPlan plan }
-        requires sound { IsSound D.told plan self.old }
-        requires lot { MayTakeItsPlace D.told plan node self.old lot }
-        ensures sound { IsSound D.told plan self.new }
-        ensures placed { TakesItsPlace D.told plan.nodes node lot self.old self.new }
-        ensures given { (d : LotView) → result ≡ lot_at self.old.storage.lots node d }
-        ensures stands { IsReadyAt self.new.storage.size (with_lot result (view_of D.told
-            self.new.storage)) }
+    /// What is true of every worker: all of its lots stand together. It does nothing, and is called
+    /// for the prover alone.
+    pub fn limits(&self)
+        ensures { IsReadyAt self.now.storage.size (view_of D.told self.now.storage) }
     {
-        self.storage.exchange(node as usize, &mut lot);
-        lot
+        self.storage.limits();
     }
 
-    /// Adds a record behind those of a lot from outside, as `Lot::append` does, with this worker's
-    /// segments and its disk.
-    ///
-    /// `Spill` only where the disk's count of faults rose in this call; what the lot stands for is
-    /// then open.
-    pub fn store_row<X: Span>(&mut self, lot: &mut Lot, row: &X) -> Result<(), StreamFault>
-        requires stands { IsReadyAt self.old.storage.size (with_lot lot.old (view_of D.told
-            self.old.storage)) }
-        requires len { length (X.seen row.now) < 2 ^ 32 }
-        requires supply { IsSupplied self.old.storage.purse lot.old }
-        ensures rows { IsShort self.old.storage.size lot.old.feed.reach (length (X.seen row.now)) →
-            OnOk result (BothTold (D.told self.old.storage.disk) (D.told self.new.storage.disk)
-            (Gains lot.old lot.new (X.seen row.now ∷ []))) }
-        ensures keeps { KeepsBesideLot D.told self.old self.new lot.old lot.new }
+    /// Puts a lot from outside in the place of a node's, which then is outside. The lot stands together
+    /// with those of the worker, and the one that goes then does. The plan is there for the prover
+    /// alone.
+    pub fn exchange_lot(&mut self, _plan: &Plan, node: u32, lot: &mut Lot)
+        requires rules { IsPlan _plan.now }
+        requires sound { IsSound D.told _plan.now self.old }
+        requires lot { MayTakeItsPlace D.told _plan.now node self.old lot.old }
+        ensures sound { IsSound D.told _plan.now self.new }
+        ensures placed { TakesItsPlace D.told _plan.now.nodes node lot.old self.old self.new }
+        ensures given { (d : LotView) → lot.new ≡ lot_at self.old.storage.lots node d }
         ensures stands { IsReadyAt self.new.storage.size (with_lot lot.new (view_of D.told
             self.new.storage)) }
-        ensures cause { HasWriteCause (D.fault_count self.old.storage.disk)
-            (D.fault_count self.new.storage.disk) result }
-        ensures supply { OnOk result (IsSupplied self.new.storage.purse lot.new) }
     {
-        self.storage.append_outside(lot, row)
+        self.storage.exchange(node as usize, lot);
     }
 
-    /// Brings a lot from outside to rest, as `Lot::rest` does, with this worker's segments and its
-    /// disk.
+    /// Adds a record behind those of a node, as `Lot::append` does. The plan is there for the prover
+    /// alone.
     ///
-    /// `Spill` only where the disk's count of faults rose in this call; what the lot stands for is
-    /// then open.
-    pub fn rest_lot(&mut self, lot: &mut Lot) -> Result<(), StreamFault>
-        requires { IsReadyAt self.old.storage.size (with_lot lot.old (view_of D.told
-            self.old.storage)) }
-        ensures rows { OnOk result (BothTold (D.told self.old.storage.disk) (D.told
-            self.new.storage.disk)
-            (Gains lot.old lot.new [])) }
-        ensures keeps { KeepsBesideLot D.told self.old self.new lot.old lot.new }
-        ensures stands { IsReadyAt self.new.storage.size (with_lot lot.new (view_of D.told
-            self.new.storage)) }
+    /// `Spill` only where the disk's count of faults rose in this call; the rows of the node are then
+    /// open. It copies the record's bytes, and a page costs one write at most. It takes no memory.
+    pub fn store_row<X: Span>(
+        &mut self,
+        _plan: &Plan,
+        node: u32,
+        row: &X,
+    ) -> Result<(), StreamFault>
+        requires rules { IsPlan _plan.now }
+        requires filling { IsFilling D.told _plan.now node self.old }
+        requires row { IsRowOf _plan.now node (X.seen row.now) }
+        ensures filled { IsBeingFilled D.told _plan.now node self.new }
+        ensures filling { OnOk result (IsFilling D.told _plan.now node self.new) }
+        ensures stores { OnOk result (IfTold (D.told self.old.storage.disk)
+            (λ _. Stores D.told _plan.now.nodes node (X.seen row.now) self.old self.new)) }
+        ensures keeps { KeepsWorker D.told self.old self.new (node ∷ []) (node ∷ []) }
         ensures cause { HasWriteCause (D.fault_count self.old.storage.disk)
             (D.fault_count self.new.storage.disk) result }
-        ensures rests { length (held lot.new) ≤ lot.new.stored.room }
     {
-        self.storage.rest_outside(lot)
+        // All of it stands together, for the prover alone.
+        self.storage.limits();
+        self.storage.append(node as usize, row)
+    }
+
+    /// Brings the lot of a node to rest that was being filled, as `Lot::rest` does. The plan is there
+    /// for the prover alone.
+    ///
+    /// `Spill` only where the disk's count of faults rose in this call; the rows of the node are then
+    /// open.
+    pub fn rest_lot(&mut self, _plan: &Plan, node: u32) -> Result<(), StreamFault>
+        requires rules { IsPlan _plan.now }
+        requires filled { IsBeingFilled D.told _plan.now node self.old }
+        requires node { IsSome (node_at _plan.now.nodes node) }
+        ensures worker { IsWorkerOf D.told _plan.now self.new }
+        ensures sound { IfTold (D.told self.old.storage.disk) (HoldsNodes _plan.now.nodes
+            self.old.storage.lots) → OnOk result (IsSound D.told _plan.now self.new) }
+        ensures same { IfTold (D.told self.old.storage.disk) (HoldsNodes _plan.now.nodes
+            self.old.storage.lots) → OnOk result (HoldsTheSame D.told _plan.now.nodes self.old
+            self.new) }
+        ensures keeps { KeepsWorker D.told self.old self.new (node ∷ []) (node ∷ []) }
+        ensures cause { HasWriteCause (D.fault_count self.old.storage.disk)
+            (D.fault_count self.new.storage.disk) result }
+    {
+        // All of it stands together, for the prover alone.
+        self.storage.limits();
+        self.storage.rest(node as usize)
     }
 
     /// How many rows this worker holds of a node, 2^64 - 1 where there are more. Each page of the
-    /// node's lot is read once, and all lots rest afterwards.
+    /// node's lot is read once, and all lots rest afterwards. The plan is there for the prover alone.
     ///
     /// `Spill` comes only where the disk's count of faults rose in this call, `Damaged` only over
     /// a disk that doesn't tell, with the block that was read last.
-    pub fn rows(&mut self, node: u32) -> Result<u64, StreamFault>
-        ghost plan: { Plan }
-        requires rules { IsPlan plan }
-        requires sound { IsSound D.told plan self.old }
-        requires node { IsSome (node_at plan.nodes node) }
+    pub fn rows(&mut self, _plan: &Plan, node: u32) -> Result<u64, StreamFault>
+        requires rules { IsPlan _plan.now }
+        requires sound { IsSound D.told _plan.now self.old }
+        requires node { IsSome (node_at _plan.now.nodes node) }
         ensures count { IfOk result (λ count. IfTold (D.told self.old.storage.disk)
-            (λ _. count ≡ min (length (worker_rows D.told plan.nodes self.old node)) (2 ^ 64 -
+            (λ _. count ≡ min (length (worker_rows D.told _plan.now.nodes self.old node)) (2 ^ 64 -
             1))) }
-        ensures sound { IsSound D.told plan self.new }
-        ensures same { (n : ℕ) → worker_rows D.told plan.nodes self.new n ≡ worker_rows D.told
-            plan.nodes self.old n }
-        ensures keeps { KeepsStorage D.told self.old.storage self.new.storage (node ∷ []) [] true }
-        ensures cause { HasStreamCause (D.fault_count self.old.storage.disk)
-            (D.fault_count self.new.storage.disk) (D.told self.old.storage.disk) result }
+        ensures sound { IsSound D.told _plan.now self.new }
+        ensures same { HoldsTheSame D.told _plan.now.nodes self.old self.new }
+        ensures keeps { KeepsWorker D.told self.old self.new (node ∷ []) [] }
+        ensures cause { HasStageCause (D.fault_count self.old.storage.disk)
+            (D.fault_count self.new.storage.disk) (D.told self.old.storage.disk) self.new.storage
+            result }
     {
         // All of it stands together, for the prover alone.
         self.storage.limits();

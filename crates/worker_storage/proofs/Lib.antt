@@ -1,4 +1,3 @@
 pub mod CountLemmas
 pub mod Lifting
-pub mod Outside
 pub mod Swapping

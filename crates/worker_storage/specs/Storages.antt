@@ -44,13 +44,6 @@ all_places count = range_with_len 0 count
 abbrev pub with_lot : LotView → StorageView → StorageView
 with_lot lot view = record { told = view.told; purse = view.purse; lots = view.lots ++ lot ∷ [] }
 
--- What a call over a lot from outside keeps of a storage: its own lots are the same, and of them with that lot behind them, which
--- alone is written, `Preserves` holds.
-pub record KeepsOutside {D : Type 0} (told : D → Option Blocks) (before after : Storage D) (lot lot_now : LotView) : Type 0 where
-  pub size : after.size ≡ before.size
-  pub lots : after.lots ≡ before.lots
-  pub preserves : Preserves (with_lot lot (view_of told before)) (with_lot lot_now (view_of told after)) (length before.lots ∷ []) (length before.lots ∷ []) true
-
 -- A record of so many bytes touches no more pages of so many bytes than the reach, wherever it begins.
 abbrev pub IsShort : (size reach count : ℕ) → Type 0
 IsShort size reach count = (4 + count + (size - 16) - 1) / (size - 16) + 1 ≤ reach

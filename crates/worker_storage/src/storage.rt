@@ -10,7 +10,7 @@ ghost use Rattle.spool.specs.Spilling.{HasWriteCause};
 ghost use Rattle.lot_store.specs.Storage.{IsReadyAt, held_count, lot_at, with_segment};
 ghost use Rattle.row_pipe.specs.Pipes.{GivesWithin, HasPassCause, RestsAfter};
 ghost use Rattle.worker_storage.specs.Storages.{FreesAll, HasCountCause, HoldsSome, IsShort};
-ghost use Rattle.worker_storage.specs.Storages.{KeepsOutside, KeepsStorage, MayRead, all_places, given, row_count, view_of, with_lot};
+ghost use Rattle.worker_storage.specs.Storages.{KeepsStorage, MayRead, all_places, given, row_count, view_of, with_lot};
 
 use crate::places::{
     append_at, append_page_at, count_at, drop_at, exchange_at, first_fault, pipe_at, rest_at,
@@ -213,46 +213,6 @@ impl<D: Spill> WorkerStorage<D> {
         ensures stands { IsReadyAt self.new.size (with_lot lot.new (view_of D.told self.new)) }
     {
         exchange_at(&mut self.lots, at, lot);
-    }
-
-    /// Adds a record behind those of a lot from outside, as `Lot::append` does, with the segments
-    /// and the disk of this storage. The lot stands together with those here, and does so
-    /// afterwards.
-    ///
-    /// `Spill` only where the disk's count of faults rose in this call; what the lot stands for is
-    /// then open.
-    pub fn append_outside<X: Span>(&mut self, lot: &mut Lot, row: &X) -> Result<(), StreamFault>
-        requires stands { IsReadyAt self.old.size (with_lot lot.old (view_of D.told self.old)) }
-        requires len { length (X.seen row.now) < 2 ^ 32 }
-        requires supply { IsSupplied self.old.purse lot.old }
-        ensures rows { IsShort self.old.size lot.old.feed.reach (length (X.seen row.now)) →
-            OnOk result (BothTold (D.told self.old.disk) (D.told self.new.disk)
-            (Gains lot.old lot.new (X.seen row.now ∷ []))) }
-        ensures keeps { KeepsOutside D.told self.old self.new lot.old lot.new }
-        ensures stands { IsReadyAt self.new.size (with_lot lot.new (view_of D.told self.new)) }
-        ensures cause { HasWriteCause (D.fault_count self.old.disk)
-            (D.fault_count self.new.disk) result }
-        ensures supply { OnOk result (IsSupplied self.new.purse lot.new) }
-    {
-        lot.append(row, &mut self.purse, &mut self.disk)
-    }
-
-    /// Brings a lot from outside to rest, as `Lot::rest` does, with the segments and the disk of
-    /// this storage.
-    ///
-    /// `Spill` only where the disk's count of faults rose in this call; what the lot stands for is
-    /// then open.
-    pub fn rest_outside(&mut self, lot: &mut Lot) -> Result<(), StreamFault>
-        requires { IsReadyAt self.old.size (with_lot lot.old (view_of D.told self.old)) }
-        ensures rows { OnOk result (BothTold (D.told self.old.disk) (D.told self.new.disk)
-            (Gains lot.old lot.new [])) }
-        ensures keeps { KeepsOutside D.told self.old self.new lot.old lot.new }
-        ensures stands { IsReadyAt self.new.size (with_lot lot.new (view_of D.told self.new)) }
-        ensures cause { HasWriteCause (D.fault_count self.old.disk)
-            (D.fault_count self.new.disk) result }
-        ensures rests { length (held lot.new) ≤ lot.new.stored.room }
-    {
-        lot.rest(&mut self.purse, &mut self.disk)
     }
 
     /// How many records a lot has, 2^64 - 1 where there are more. The lot is at rest before and, whatever the

@@ -4,6 +4,7 @@ use Rattle.std.proofs.lemmas.Grind.{common_steps}
 use Rattle.flow_types.specs.declared.field_type.FieldType.TheVariants as type
 use Rattle.flow_types.specs.Types.{width}
 use Rattle.delim_io.specs.Fields.{field_value}
+use Rattle.delim_io.proofs.HeldLemmas.{each_tuple}
 use Rattle.delim_io.proofs.LineLemmas.{line_long, line_short}
 use Rattle.delim_io.proofs.LineRecordLemmas.{IsBuilt, built_last, built_more, some_field}
 use Rattle.delim_io.proofs.line_record.write_record.Goals as goal
@@ -37,3 +38,6 @@ returns-in-None-cut-clause-row c =
     built_last c.args.schema.now fields c.args.delimiter c.args.line.now (length fields - 1) c.loop-i.rest.now c.args.out.now c.loop-i.out c.write_field-in-None-cut.new.out c.loop-i.end c.write_field-in-None-cut.result
     c.fields-fields.ensures.value (sym c.is_plain_line.ensures ∙ c.if-not-is_plain_line.false) (omega (arith, ap length c.fields-fields.ensures.value, some)) c.in-None-cut.ensures.parts
     (subst (λ k. IsBuilt c.args.schema.now c.args.delimiter c.args.line.now k c.loop-i.rest.now c.args.out.now c.loop-i.out c.loop-i.end) at c.loop-i.invariant.built) c.write_field-in-None-cut.ensures.value
+
+pub returns-in-None-cut-clause-tuple : goal.returns-in-None-cut-clause-tuple
+returns-in-None-cut-clause-tuple c = each_tuple c.args.schema.now c.args.delimiter c.args.line.now c.fields-fields.ensures.limits c.write_field-in-None-cut.result
