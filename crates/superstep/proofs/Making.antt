@@ -89,7 +89,7 @@ none_of_list : (i count : ℕ) (ns : List ℕ) → count ≤ i → ((k : ℕ) �
 none_of_list i count [] high low = tt
 none_of_list i count (n ∷ ns) high low = ((λ is. absurd (omega (arith, is, high, low 0 (omega arith)))), none_of_list i count ns high (λ k less. low (suc k) (omega (arith, less))))
 
-none_of_all : (i count : ℕ) (ns : List ℕ) → IsNoneOf i (all_places count) → ((k : ℕ) → k < length ns → slice_index_or ns k 0 < count) → IsNoneOf i ns
+pub none_of_all : (i count : ℕ) (ns : List ℕ) → IsNoneOf i (all_places count) → ((k : ℕ) → k < length ns → slice_index_or ns k 0 < count) → IsNoneOf i ns
 none_of_all i count ns none low = none_of_list i count ns (omega (arith, past_places i 0 count none (omega arith))) low
 
 pub keeps_all : {D : Type 0} (told : D → Option Blocks) (plan : Plan) (node : Node) (w u : WorkerView D) → IsPlan plan → StatesValues plan → node_at plan.nodes node.number ≡ Some node → node.home ≡ 0 → IsSome (work_of node.op)
@@ -255,12 +255,12 @@ module _ {D : Type 0} (told : D → Option Blocks) (plan : Plan) (rules : IsPlan
 
 -- ---- all nodes
 
-all_outer : (nodes : List Node) → All IsServedNode nodes → nodes_of 0 nodes ≡ nodes
+pub all_outer : (nodes : List Node) → All IsServedNode nodes → nodes_of 0 nodes ≡ nodes
 all_outer [] h = refl
 all_outer (x ∷ xs) h =
     ap (λ b. cond b (x ∷ nodes_of 0 xs) (nodes_of 0 xs)) ((Decides-eqb x.home 0).1 (All-head IsServedNode x xs h).outer) ∙ ap (λ ns. x ∷ ns) (all_outer xs (All-tail IsServedNode x xs h))
 
-result_found : (nodes : List Node) (n : ℕ) (test : Node → Bool) → is_node nodes n test ≡ true → (node : Node) × (node_at nodes n ≡ Some node)
+pub result_found : (nodes : List Node) (n : ℕ) (test : Node → Bool) → is_node nodes n test ≡ true → (node : Node) × (node_at nodes n ≡ Some node)
 result_found nodes n test h = go (node_at nodes n) refl h
   where
     go : (o : Option Node) → node_at nodes n ≡ o → passes test o ≡ true → (node : Node) × (node_at nodes n ≡ Some node)

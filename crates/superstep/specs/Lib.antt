@@ -1,1 +1,9 @@
 pub mod Outer
+pub mod Both
+pub mod Opening
+pub mod Loading
+pub mod Executing
+pub mod Emitting
+pub mod Engines
+pub mod EngineCalls
+pub mod EngineSteps

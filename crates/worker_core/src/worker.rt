@@ -338,7 +338,7 @@ impl<D: Spill> Worker<D> {
 }
 
 /// The node of a number, where it is there.
-fn node_at(nodes: &[Node], number: u32) -> Option<&Node>
+pub fn node_at(nodes: &[Node], number: u32) -> Option<&Node>
     ensures { option_copied result ≡ node_at nodes.now number }
 {
     nodes.iter().find(|node| node.number == number)
