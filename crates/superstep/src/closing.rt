@@ -12,9 +12,9 @@ use flow_outside::spill::Spill;
 use lot_store::lot::Lot;
 use segment_core::{Pool, Purse};
 
-/// Ends a lot that lies alone: the blocks of its pages are freed, unless the disk fails or memory is
-/// wanting for a list of one segment. All segments are free afterwards. The plan is
-/// there for the prover alone.
+/// Ends a lot that lies alone: the blocks of its pages are freed, unless the disk fails or memory
+/// is wanting for a list of one segment. All segments are free afterwards. The plan is there for
+/// the prover alone.
 pub(crate) fn drop_place<D: Spill>(_plan: &Plan, pool: &mut Pool, place: Lot, disk: &mut D)
     requires lies { LiesAlone _plan.now (D.told disk.old) place }
     requires free { IsAllFree pool.old × (pool.old.size ≡ _plan.now.segment) }

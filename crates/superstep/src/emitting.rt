@@ -1,5 +1,6 @@
 //! The rows of a result are read out of the lot that they lie in.
-ghost use Rattle.std.specs.Prelude.{◌≡◌, ℕ, ◌≤◌, List, [], ◌∷◌, ◌++◌, Some, IfOk, IsErrOf, OnOk, IsSome, length};
+ghost use Rattle.std.specs.Prelude.{◌≡◌, ℕ, ◌≤◌, List, [], ◌∷◌, ◌++◌, Some, IfOk, IsErrOf, OnOk};
+ghost use Rattle.std.specs.Prelude.{IsSome, length};
 ghost use Rattle.flow_outside.specs.Told.{IfTold};
 ghost use Rattle.flow_model.specs.Env.{Tuples};
 ghost use Rattle.flow_model.specs.Rules.{IsPlan};
@@ -10,7 +11,8 @@ ghost use Rattle.lot_store.specs.Storage.{IsReady, alone};
 ghost use Rattle.segment_core.specs.Segments.{PurseView};
 ghost use Rattle.worker_storage.specs.Storages.{HoldsSome};
 ghost use Rattle.worker_core.specs.Workers.{tuples_in};
-ghost use Rattle.superstep.specs.Emitting.{AddsShown, HasReadingCause, IsLeftOf, KeepsPlace, LiesAlone, of_stream};
+ghost use Rattle.superstep.specs.Emitting.{AddsShown, HasReadingCause, IsLeftOf, KeepsPlace};
+ghost use Rattle.superstep.specs.Emitting.{LiesAlone, of_stream};
 ghost use Rattle.superstep.specs.Executing.{HoldsResult, result_in};
 ghost use Rattle.superstep.specs.Opening.{IsAllFree};
 
@@ -74,7 +76,8 @@ fn take_rows<D: Spill>(
     requires holds { IfTold (D.told disk.old) (HoldsSome schema.now place.old) }
     ensures rows { IfOk result (λ rows. IfTold (D.told disk.old)
         (λ _. rows.items ≡ tuples_in schema.now (D.told disk.old) place.old)) }
-    ensures reads { Reads (D.told disk.old) (D.told disk.new) purse.old purse.new place.old place.new }
+    ensures reads { Reads (D.told disk.old) (D.told disk.new) purse.old purse.new place.old
+        place.new }
     ensures bare { held place.new ≡ [] }
     ensures tells { D.told disk.new ≡ D.told disk.old }
     ensures cause { HasReadingCause (D.fault_count disk.old) (D.fault_count disk.new)
@@ -131,7 +134,8 @@ fn push_shown<D: Spill>(
     rows: &mut Vec<Row>,
 ) -> Result<(), EmitFault>
     requires shown { IsSome place.now.feed.shown }
-    ensures adds { OnOk result (AddsShown schema.now place.now.feed.shown rows.old.items rows.new.items) }
+    ensures adds { OnOk result
+        (AddsShown schema.now place.now.feed.shown rows.old.items rows.new.items) }
     ensures damaged { (worker block : ℕ) → IsErrOf result (EmitFault.Damaged worker block) →
         (worker ≡ 0) × (block ≡ place.now.read_last)
         × ((bytes : List ℕ) → place.now.feed.shown ≡ Some bytes → IsRecord schema.now bytes → ⊥) }

@@ -1,15 +1,20 @@
-ghost use Rattle.std.specs.Prelude.{◌≡◌, ℕ, ◌<◌, [], ◌∷◌, true, IfErr, IfOk, OnErr, OnOk, IsSome, Some, None, is_some, length, reverse, vec_len};
+ghost use Rattle.std.specs.Prelude.{◌≡◌, ℕ, ◌<◌, [], ◌∷◌, true, IfErr, IfOk, OnErr, OnOk, IsSome};
+ghost use Rattle.std.specs.Prelude.{Some, None, is_some, length, reverse, vec_len};
 ghost use Rattle.flow_outside.specs.Readers.{Lives, left_of, name_of};
 ghost use Rattle.flow_outside.specs.Told.{IfTold};
 ghost use Rattle.flow_model.specs.declared.plan.Node.{Node};
 ghost use Rattle.flow_model.specs.Rules.{node_at};
 ghost use Rattle.flow_types.specs.Bags.{ordered};
 ghost use Rattle.superstep.specs.Emitting.{HasReadingCause};
-ghost use Rattle.superstep.specs.Engines.{EngineView, HasFailed, IsDone, IsDown, IsReady, disks_of, first_disk, result_rows, told_of};
-ghost use Rattle.superstep.specs.EngineCalls.{ClosesDisks, Executes, HasEmitCause, IsOpened, KeepsEngine, Loads, MayBeClosed, PrintsResult};
-ghost use Rattle.superstep.specs.EngineSteps.{Makes, MayBeTakenDown, ReadsResult, TakesDown, faults_of};
+ghost use Rattle.superstep.specs.Engines.{EngineView, HasFailed, IsDone, IsDown, IsReady, disks_of};
+ghost use Rattle.superstep.specs.Engines.{first_disk, result_rows, told_of};
+ghost use Rattle.superstep.specs.EngineCalls.{ClosesDisks, Executes, HasEmitCause, IsOpened};
+ghost use Rattle.superstep.specs.EngineCalls.{KeepsEngine, Loads, MayBeClosed, PrintsResult};
+ghost use Rattle.superstep.specs.EngineSteps.{Makes, MayBeTakenDown, ReadsResult, TakesDown};
+ghost use Rattle.superstep.specs.EngineSteps.{faults_of};
 ghost use Rattle.superstep.specs.Executing.{HasExecCause};
-ghost use Rattle.superstep.specs.Loading.{HasEnded, HasLoadCause, IsSource, KeepsShelf, rows_of_input};
+ghost use Rattle.superstep.specs.Loading.{HasEnded, HasLoadCause, IsSource, KeepsShelf};
+ghost use Rattle.superstep.specs.Loading.{rows_of_input};
 ghost use Rattle.superstep.specs.Opening.{IsServing};
 ghost use Rattle.lot_store.specs.Storage.{IsReadyAt};
 ghost use Rattle.worker_core.specs.Workers.{WorkerView};
@@ -151,20 +156,23 @@ impl<D: Spill> Engine<D> {
         Ledger::of(&self.pool)
     }
 
-    /// Reads reader `id` of a shelf, which stands at the first byte of a source's input, to its end, and
-    /// stores the rows; it gives their number. A row is read and stored one by one.
+    /// Reads reader `id` of a shelf, which stands at the first byte of a source's input, to its
+    /// end, and stores the rows; it gives their number. A row is read and stored one by one.
     ///
-    /// After a fault every segment is free and the engine can only be closed. `Input` comes exactly where
-    /// the input isn't of the form that is served, `Read` only where the shelf's count of faults at the
-    /// reader's name rose in this call, `Spill` only where that of the first disk did.
+    /// After a fault every segment is free and the engine can only be closed. `Input` comes
+    /// exactly where the input isn't of the form that is served, `Read` only where the shelf's
+    /// count of faults at the reader's name rose in this call, `Spill` only where that of the
+    /// first disk did.
     pub fn load<S: Shelf>(&mut self, source: u32, shelf: &mut S, id: u32) -> Result<u64, LoadFault>
         requires ready { IsReady D.told self.old }
         requires source { IsSource self.old.plan source }
         requires lives { Lives (S.readers shelf.old) id }
-        ensures stands { OnOk result (IsReady D.told self.new) × OnErr result (HasFailed D.told self.new) }
+        ensures stands { OnOk result (IsReady D.told self.new)
+            × OnErr result (HasFailed D.told self.new) }
         ensures loads { IfOk result (λ count. IfTold (left_of (S.readers shelf.old id))
             (Loads D.told source count self.old self.new)) }
-        ensures ended { OnOk result (HasEnded (S.readers shelf.new) (S.living shelf.old) (S.living shelf.new) id) }
+        ensures ended { OnOk result
+            (HasEnded (S.readers shelf.new) (S.living shelf.old) (S.living shelf.new) id) }
         ensures shelf { KeepsShelf (S.told shelf.old) (S.told shelf.new) (S.faults_at shelf.old)
             (S.faults_at shelf.new) (S.readers shelf.old) (S.readers shelf.new) id }
         ensures keeps { KeepsEngine D.told D.fault_count self.old self.new }
@@ -173,7 +181,8 @@ impl<D: Spill> Engine<D> {
             (faults_of D.fault_count (first_disk self.new))
             (S.faults_at shelf.old name) (S.faults_at shelf.new name)
             (IfTold (left_of (S.readers shelf.old id)) (λ bytes. (node : Node) →
-            node_at self.old.plan.nodes source ≡ Some node → rows_of_input node bytes ≡ None)) result }
+            node_at self.old.plan.nodes source ≡ Some node → rows_of_input node bytes ≡ None))
+            result }
     {
         match self.fill(source, shelf, id) {
             Ok(count) => Ok(count),
@@ -184,18 +193,20 @@ impl<D: Spill> Engine<D> {
         }
     }
 
-    /// Makes the result of the rows that were loaded. It takes no memory. Afterwards every segment is
-    /// free, whatever the answer, and the result lies on the first disk.
+    /// Makes the result of the rows that were loaded. It takes no memory. Afterwards every segment
+    /// is free, whatever the answer, and the result lies on the first disk.
     ///
-    /// `Spill` comes only where the first disk's count of faults rose in this call, `Damaged` only over
-    /// a disk that doesn't tell. After a fault the engine can only be closed.
+    /// `Spill` comes only where the first disk's count of faults rose in this call, `Damaged` only
+    /// over a disk that doesn't tell. After a fault the engine can only be closed.
     pub fn execute(&mut self) -> Result<Receipt, ExecFault>
         requires { IsReady D.told self.old }
-        ensures stands { OnOk result (IsDone D.told self.new) × OnErr result (HasFailed D.told self.new) }
+        ensures stands { OnOk result (IsDone D.told self.new)
+            × OnErr result (HasFailed D.told self.new) }
         ensures executes { IfOk result (Executes D.told self.old self.new) }
         ensures keeps { KeepsEngine D.told D.fault_count self.old self.new }
         ensures cause { HasExecCause (faults_of D.fault_count (first_disk self.old))
-            (faults_of D.fault_count (first_disk self.new)) (told_of D.told (first_disk self.old)) result }
+            (faults_of D.fault_count (first_disk self.new)) (told_of D.told (first_disk self.old))
+            result }
     {
         match self.make() {
             Ok(count) => {
@@ -212,9 +223,9 @@ impl<D: Spill> Engine<D> {
     /// Prints the result: its rows are read into memory, ordered, and written, so that nothing is
     /// written before all were read. The receipt shows that it was made. It may be printed again.
     ///
-    /// `Spill` comes only where the first disk's count of faults rose in this call, `Damaged` only over
-    /// a disk that doesn't tell, with the block that was read last, `Write` only where the output's
-    /// count rose.
+    /// `Spill` comes only where the first disk's count of faults rose in this call, `Damaged` only
+    /// over a disk that doesn't tell, with the block that was read last, `Write` only where the
+    /// output's count rose.
     pub fn emit<K: Sink>(&mut self, _receipt: &Receipt, out: &mut K) -> Result<(), EmitFault>
         requires { IsDone D.told self.old }
         ensures stands { IsDone D.told self.new }
@@ -240,7 +251,8 @@ impl<D: Spill> Engine<D> {
     pub fn close(mut self) -> Closed<D>
         requires { MayBeClosed D.told self }
         ensures disks { ClosesDisks D.told D.fault_count self result.disks.items }
-        ensures ledger { result.ledger ≡ record { total = self.pool.total; free = self.pool.total } }
+        ensures ledger { result.ledger
+            ≡ record { total = self.pool.total; free = self.pool.total } }
     {
         if !self.is_staffed() {
             return self.into_closed();
@@ -257,7 +269,8 @@ impl<D: Spill> Engine<D> {
         ensures stands { OnOk result (IsReady D.told self.new) × MayBeTakenDown D.told self.new }
         ensures fills { IfOk result (λ count. IfTold (left_of (S.readers shelf.old id))
             (Loads D.told source count self.old self.new)) }
-        ensures ended { OnOk result (HasEnded (S.readers shelf.new) (S.living shelf.old) (S.living shelf.new) id) }
+        ensures ended { OnOk result
+            (HasEnded (S.readers shelf.new) (S.living shelf.old) (S.living shelf.new) id) }
         ensures shelf { KeepsShelf (S.told shelf.old) (S.told shelf.new) (S.faults_at shelf.old)
             (S.faults_at shelf.new) (S.readers shelf.old) (S.readers shelf.new) id }
         ensures keeps { KeepsEngine D.told D.fault_count self.old self.new }
@@ -266,7 +279,8 @@ impl<D: Spill> Engine<D> {
             (faults_of D.fault_count (first_disk self.new))
             (S.faults_at shelf.old name) (S.faults_at shelf.new name)
             (IfTold (left_of (S.readers shelf.old id)) (λ bytes. (node : Node) →
-            node_at self.old.plan.nodes source ≡ Some node → rows_of_input node bytes ≡ None)) result }
+            node_at self.old.plan.nodes source ≡ Some node → rows_of_input node bytes ≡ None))
+            result }
     {
         match &mut self.worker {
             Some(worker) => {
@@ -286,7 +300,8 @@ impl<D: Spill> Engine<D> {
         ensures makes { IfOk result (λ count. Makes D.told count self.old self.new) }
         ensures keeps { KeepsEngine D.told D.fault_count self.old self.new }
         ensures cause { HasExecCause (faults_of D.fault_count (first_disk self.old))
-            (faults_of D.fault_count (first_disk self.new)) (told_of D.told (first_disk self.old)) result }
+            (faults_of D.fault_count (first_disk self.new)) (told_of D.told (first_disk self.old))
+            result }
     {
         match &mut self.worker {
             Some(worker) => make_result(worker, &self.plan, &mut self.place),
@@ -372,7 +387,8 @@ impl<D: Spill> Engine<D> {
     fn into_closed(self) -> Closed<D>
         requires { IsDown D.told self }
         ensures disks { ClosesDisks D.told D.fault_count self result.disks.items }
-        ensures ledger { result.ledger ≡ record { total = self.pool.total; free = self.pool.total } }
+        ensures ledger { result.ledger
+            ≡ record { total = self.pool.total; free = self.pool.total } }
     {
         let Engine {
             alloc: _,

@@ -5,7 +5,8 @@ ghost use Rattle.flow_model.specs.Segments.{reach};
 ghost use Rattle.lot_store.specs.Lots.{empty};
 ghost use Rattle.model_laws.specs.LawsOfPlanFits.{StatesValues};
 ghost use Rattle.worker_core.specs.Workers.{HasStageCause, IsSound, IsWorkerOf};
-ghost use Rattle.superstep.specs.Executing.{HasExecCause, KeepsSegments, LiesBeside, MakesResult, MakesRows, of_stream};
+ghost use Rattle.superstep.specs.Executing.{HasExecCause, KeepsSegments, LiesBeside, MakesResult};
+ghost use Rattle.superstep.specs.Executing.{MakesRows, of_stream};
 ghost use Rattle.superstep.specs.Outer.{IsServed, KeepsAll};
 
 use crate::faults::ExecFault;

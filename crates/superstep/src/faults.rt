@@ -33,8 +33,8 @@ pub enum ExecFault {
     Spill {
         worker: u32,
     },
-    /// The page in this block of the worker's disk isn't one that was written, or has no rows of its
-    /// schema. Only over a disk that doesn't tell.
+    /// The page in this block of the worker's disk isn't one that was written, or has no rows of
+    /// its schema. Only over a disk that doesn't tell.
     #[error("block {block} of worker {worker} is damaged")]
     Damaged {
         worker: u32,
@@ -60,8 +60,8 @@ pub enum EmitFault {
     /// The disk of this worker failed: its count rose in this call. Nothing was written.
     #[error("the spill device of worker {worker} failed")]
     Spill { worker: u32 },
-    /// The page in this block of the worker's disk isn't one that was written, or has no rows of the
-    /// result's schema. Only over a disk that doesn't tell. Nothing was written.
+    /// The page in this block of the worker's disk isn't one that was written, or has no rows of
+    /// the result's schema. Only over a disk that doesn't tell. Nothing was written.
     #[error("block {block} of worker {worker} is damaged")]
     Damaged { worker: u32, block: u64 },
     /// The output failed: its count rose in this call.

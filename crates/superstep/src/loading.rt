@@ -5,8 +5,10 @@ ghost use Rattle.flow_model.specs.Rules.{IsPlan, node_at};
 ghost use Rattle.flow_outside.specs.Readers.{Lives, left_of, name_of};
 ghost use Rattle.flow_outside.specs.Told.{IfTold};
 ghost use Rattle.delim_io.specs.LinesLeft.{rows_ahead};
-ghost use Rattle.worker_core.specs.Workers.{IsBeingFilled, IsFilling, IsSound, IsWorkerOf, KeepsWorker};
-ghost use Rattle.superstep.specs.Loading.{HasEnded, HasLoadCause, IsLinesOf, IsSource, KeepsShelf, StoresAll, first_lines, of_lines, rows_of_input};
+ghost use Rattle.worker_core.specs.Workers.{IsBeingFilled, IsFilling, IsSound, IsWorkerOf};
+ghost use Rattle.worker_core.specs.Workers.{KeepsWorker};
+ghost use Rattle.superstep.specs.Loading.{HasEnded, HasLoadCause, IsLinesOf, IsSource, KeepsShelf};
+ghost use Rattle.superstep.specs.Loading.{StoresAll, first_lines, of_lines, rows_of_input};
 
 use crate::faults::LoadFault;
 use delim_io::line_reader::{LineFault, LineReader};
@@ -35,8 +37,10 @@ pub(crate) fn load_source<S: Shelf, D: Spill>(
     ensures sound { OnOk result (IsSound D.told plan.now worker.new) }
     ensures stores { IfOk result (λ count. IfTold (left_of (S.readers shelf.old id)) (λ bytes.
         (node : Node) → node_at plan.now.nodes source ≡ Some node →
-        StoresAll D.told plan.now.nodes source (rows_of_input node bytes) count worker.old worker.new)) }
-    ensures ended { OnOk result (HasEnded (S.readers shelf.new) (S.living shelf.old) (S.living shelf.new) id) }
+        StoresAll D.told plan.now.nodes source (rows_of_input node bytes) count worker.old
+        worker.new)) }
+    ensures ended { OnOk result
+        (HasEnded (S.readers shelf.new) (S.living shelf.old) (S.living shelf.new) id) }
     ensures shelf { KeepsShelf (S.told shelf.old) (S.told shelf.new) (S.faults_at shelf.old)
         (S.faults_at shelf.new) (S.readers shelf.old) (S.readers shelf.new) id }
     ensures keeps { KeepsWorker D.told worker.old worker.new (source ∷ []) (source ∷ []) }
@@ -63,7 +67,8 @@ fn open_lines(alloc: Global, node: &Node) -> Result<LineReader, Memory>
     LineReader::open(alloc, schema, node.op.delimiter())
 }
 
-/// Stores all rows that a reader of lines has left, and brings the lot to rest, whatever the answer.
+/// Stores all rows that a reader of lines has left, and brings the lot to rest, whatever the
+/// answer.
 fn load_rows<S: Shelf, D: Spill>(
     plan: &Plan,
     source: u32,
@@ -79,15 +84,18 @@ fn load_rows<S: Shelf, D: Spill>(
     ensures worker { IsWorkerOf D.told plan.now worker.new }
     ensures sound { OnOk result (IsSound D.told plan.now worker.new) }
     ensures stores { IfOk result (λ count. IfTold (left_of (S.readers shelf.old id)) (λ left.
-        StoresAll D.told plan.now.nodes source (rows_ahead lines.old left) count worker.old worker.new)) }
-    ensures ended { OnOk result (HasEnded (S.readers shelf.new) (S.living shelf.old) (S.living shelf.new) id) }
+        StoresAll D.told plan.now.nodes source (rows_ahead lines.old left) count worker.old
+        worker.new)) }
+    ensures ended { OnOk result
+        (HasEnded (S.readers shelf.new) (S.living shelf.old) (S.living shelf.new) id) }
     ensures shelf { KeepsShelf (S.told shelf.old) (S.told shelf.new) (S.faults_at shelf.old)
         (S.faults_at shelf.new) (S.readers shelf.old) (S.readers shelf.new) id }
     ensures keeps { KeepsWorker D.told worker.old worker.new (source ∷ []) (source ∷ []) }
     ensures cause { let name = name_of (S.readers shelf.old id) in
         HasLoadCause (D.fault_count worker.old.storage.disk) (D.fault_count worker.new.storage.disk)
         (S.faults_at shelf.old name) (S.faults_at shelf.new name)
-        (IfTold (left_of (S.readers shelf.old id)) (λ left. rows_ahead lines.old left ≡ None)) result }
+        (IfTold (left_of (S.readers shelf.old id)) (λ left. rows_ahead lines.old left ≡ None))
+        result }
 {
     let stored = store_rows(plan, source, lines, shelf, id, worker);
     let rested = worker.rest_lot(plan, source);
@@ -116,15 +124,18 @@ fn store_rows<S: Shelf, D: Spill>(
     ensures filled { IsBeingFilled D.told plan.now source worker.new }
     ensures filling { OnOk result (IsFilling D.told plan.now source worker.new) }
     ensures stores { IfOk result (λ count. IfTold (left_of (S.readers shelf.old id)) (λ left.
-        StoresAll D.told plan.now.nodes source (rows_ahead lines.old left) count worker.old worker.new)) }
-    ensures ended { OnOk result (HasEnded (S.readers shelf.new) (S.living shelf.old) (S.living shelf.new) id) }
+        StoresAll D.told plan.now.nodes source (rows_ahead lines.old left) count worker.old
+        worker.new)) }
+    ensures ended { OnOk result
+        (HasEnded (S.readers shelf.new) (S.living shelf.old) (S.living shelf.new) id) }
     ensures shelf { KeepsShelf (S.told shelf.old) (S.told shelf.new) (S.faults_at shelf.old)
         (S.faults_at shelf.new) (S.readers shelf.old) (S.readers shelf.new) id }
     ensures keeps { KeepsWorker D.told worker.old worker.new (source ∷ []) (source ∷ []) }
     ensures cause { let name = name_of (S.readers shelf.old id) in
         HasLoadCause (D.fault_count worker.old.storage.disk) (D.fault_count worker.new.storage.disk)
         (S.faults_at shelf.old name) (S.faults_at shelf.new name)
-        (IfTold (left_of (S.readers shelf.old id)) (λ left. rows_ahead lines.old left ≡ None)) result }
+        (IfTold (left_of (S.readers shelf.old id)) (λ left. rows_ahead lines.old left ≡ None))
+        result }
 {
     let mut count: u64 = 0;
     'lines: loop {

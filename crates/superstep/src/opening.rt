@@ -29,7 +29,8 @@ pub(crate) fn open_crew<D: Spill>(
     disk: D,
 ) -> Result<Crew<D>, D>
     requires { IsServing plan.now allot.now }
-    ensures crew { IfOk result (λ crew. IsCrew D.told plan.now allot.now disk crew.pool crew.worker) }
+    ensures crew { IfOk result
+        (λ crew. IsCrew D.told plan.now allot.now disk crew.pool crew.worker) }
     ensures place { IfOk result (λ crew. crew.place ≡ empty 0 (reach plan.now)) }
     ensures back { IfErr result (λ given. given ≡ disk) }
 {
