@@ -84,6 +84,9 @@ module _ (p : Program) (reads : Reads) (out : Writes) (a : Asked) (bytes : List 
   completes read taken name (Some fault.Usage) e = absurd e
   completes read taken name (Some (fault.PlanRefused node why)) e = absurd (no_refusal node why e.refused)
   completes read taken name (Some (fault.Unbound other)) e = absurd (no_unbound e.budget e.bindings e.plan other e.asks e.has e.unbound)
+  completes read taken name (Some (fault.SpillFault worker)) e = absurd e
+  completes read taken name (Some (fault.Damaged worker block)) e = absurd e
+  completes read taken name (Some (fault.SolutionFull node step worker need have)) e = absurd e
   completes read taken name (Some (fault.TooSmall need have)) e = absurd (no_small e.budget e.bindings e.plan need have e.asks e.has e.needs e.holds e.small)
   completes read taken name (Some (fault.ReadFault zero)) e = absurd (read e.0)
   completes read taken name (Some (fault.ReadFault (suc number))) e = absurd ((source_well (suc number) name e.at).read e.rose)

@@ -50,6 +50,9 @@ printed_ends p reads out a name text (Some (fault.InputRefused source line field
 printed_ends p reads out a name text (Some (fault.ReadFault source)) has living e = absurd e
 printed_ends p reads out a name text (Some (fault.TooSmall need have)) has living e = absurd e
 printed_ends p reads out a name text (Some (fault.Unbound other)) has living e = absurd e
+printed_ends p reads out a name text (Some (fault.SpillFault worker)) has living e = absurd e
+printed_ends p reads out a name text (Some (fault.Damaged worker block)) has living e = absurd e
+printed_ends p reads out a name text (Some (fault.SolutionFull node step worker need have)) has living e = absurd e
 
 -- all was printed
 all_printed : (p : Program) (reads : Reads) (out : Writes) (a : Asked) (text : List ℕ) → HasText p reads.told a text → reads.living ≡ 0
@@ -83,6 +86,9 @@ stopped_at_plan p reads out a s f is silent e = stopped_by p reads out a s f is 
     by fault.WriteFault k = absurd k
     by (fault.TooSmall need have) k = absurd k
     by (fault.Unbound other) k = absurd k
+    by (fault.SpillFault worker) k = absurd k
+    by (fault.Damaged worker block) k = absurd k
+    by (fault.SolutionFull node step worker need have) k = absurd k
 
 -- ---- bindings and budgets
 
@@ -108,6 +114,9 @@ stopped_small files counts after living out plan (Some b) bindings s f is silent
     by (fault.TooSmall need have) k =
         record { budget = b; bindings = bindings; asks = asks; plan = plan; has = has; bound = bound; needs = k.0; holds = k.1.0; small = k.1.1; silent = silent }
     by (fault.Unbound other) k = absurd k
+    by (fault.SpillFault worker) k = absurd k
+    by (fault.Damaged worker block) k = absurd k
+    by (fault.SolutionFull node step worker need have) k = absurd k
     by fault.Memory k = absurd k
     by (fault.ReadFault source) k = absurd k
     by (fault.PlanRefused node why) k = absurd k
@@ -182,6 +191,9 @@ stopped_at_input files counts after living out plan budget bindings s rules sile
     by fault.WriteFault k = absurd k
     by (fault.TooSmall need have) k = absurd k
     by (fault.Unbound other) k = absurd k
+    by (fault.SpillFault worker) k = absurd k
+    by (fault.Damaged worker block) k = absurd k
+    by (fault.SolutionFull node step worker need have) k = absurd k
 
 -- ---- results
 

@@ -62,6 +62,9 @@ planless p reads out a name (Some fault.Memory) none e = Planless.wanting refl
 planless p reads out a name (Some fault.Usage) none e = absurd e
 planless p reads out a name (Some (fault.PlanRefused node why)) none e = Planless.refused node why e.refused refl
 planless p reads out a name (Some (fault.Unbound other)) none e = absurd (none e.plan e.has)
+planless p reads out a name (Some (fault.SpillFault worker)) none e = absurd e
+planless p reads out a name (Some (fault.Damaged worker block)) none e = absurd e
+planless p reads out a name (Some (fault.SolutionFull node step worker need have)) none e = absurd e
 planless p reads out a name (Some (fault.TooSmall need have)) none e = absurd (none e.plan e.has)
 planless p reads out a name (Some (fault.ReadFault zero)) none e = Planless.unread refl
 planless p reads out a name (Some (fault.ReadFault (suc number))) none e = absurd (none e.at.plan e.at.may.has)
@@ -161,6 +164,9 @@ module _ (p : Program) (words : List (List ℕ)) (reads : Reads) (plan : Plan) (
   run_end out name (Some (fault.PlanRefused node why)) e =
       absurd (ok_is_no_fault (served p run.bytes) plan node why run.is (of_told reads.told run.a.plan run.bytes (λ bytes. served p bytes ≡ Err (plan_fault.Refused node why)) run.told e.refused))
   run_end out name (Some (fault.Unbound other)) e = here e.plan e.budget e.bindings (Some (fault.Unbound other)) e.asks e.has (RunEnd.unbound other e.unbound refl)
+  run_end out name (Some (fault.SpillFault worker)) e = absurd e
+  run_end out name (Some (fault.Damaged worker block)) e = absurd e
+  run_end out name (Some (fault.SolutionFull node step worker need have)) e = absurd e
   run_end out name (Some (fault.TooSmall need have)) e =
       let small : need ≡ minimum e.plan e.budget.workers → have ≡ e.budget.segments → have < need → e.budget.segments < minimum e.plan e.budget.workers = λ needs holds low. omega (arith, needs, holds, low) in
       here e.plan (Some e.budget) e.bindings (Some (fault.TooSmall need have)) e.asks e.has

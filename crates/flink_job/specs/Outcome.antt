@@ -139,7 +139,8 @@ pub record EndsInPrint (p : Program) (reads : Reads) (out : Writes) (a : Asked) 
   pub is : HasText p reads.told a text
   pub written : AppendsPrefix out.old out.new text
 
--- how a run ends that was asked for; the name is that of the source at which it stops
+-- how a run ends that was asked for; the name is that of the source at which it stops. The statuses 6, 7 and 11 don't come, since no
+-- program has rows on a disk yet
 abbrev pub Ends : Program → Reads → Writes → Asked → (name : List ℕ) → Option Fault → Type 0
 Ends p reads out a name None = EndsWell p reads out a
 Ends p reads out a name (Some fault.Usage) = ⊥
@@ -150,6 +151,9 @@ Ends p reads out a name (Some (fault.ReadFault zero)) = Rose (reads.before a.pla
 Ends p reads out a name (Some (fault.ReadFault (suc number))) = EndsAtRead p reads out a (suc number) name
 Ends p reads out a name (Some (fault.InputRefused number line field why)) = EndsAtInput p reads out a number line field why name
 Ends p reads out a name (Some fault.WriteFault) = EndsAtWrite p reads out a
+Ends p reads out a name (Some (fault.SpillFault worker)) = ⊥
+Ends p reads out a name (Some (fault.Damaged worker block)) = ⊥
+Ends p reads out a name (Some (fault.SolutionFull node step worker need have)) = ⊥
 Ends p reads out a name (Some fault.Memory) = WritesNothing out ⊎ EndsInPrint p reads out a
 
 -- how words end: words of no form ask for nothing, and that is told

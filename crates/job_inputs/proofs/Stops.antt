@@ -128,6 +128,9 @@ ends_at files files' bs nodes i x lists before middle after name why low at is h
     by fault.Memory n e = tt
     by (fault.TooSmall need have) n e = absurd e
     by (fault.Unbound name) n e = absurd e
+    by (fault.SpillFault worker) n e = absurd e
+    by (fault.Damaged worker block) n e = absurd e
+    by (fault.SolutionFull node step worker need have) n e = absurd e
 
 -- a binding that was found has the name
 same_name : (b : Bool) (x y : Binding) (rest : Option Binding) (name : List ℕ) → bytes_eq x.name name ≡ b → (rest ≡ Some y → y.name ≡ name) → cond b (Some x) rest ≡ Some y → y.name ≡ name

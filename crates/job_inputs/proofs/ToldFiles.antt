@@ -51,3 +51,6 @@ refused_of_read files name bytes source before after fault.WriteFault whole e = 
 refused_of_read files name bytes source before after fault.Memory whole e = tt
 refused_of_read files name bytes source before after (fault.TooSmall need have) whole e = absurd e
 refused_of_read files name bytes source before after (fault.Unbound other) whole e = absurd e
+refused_of_read files name bytes source before after (fault.SpillFault worker) whole e = absurd e
+refused_of_read files name bytes source before after (fault.Damaged worker block) whole e = absurd e
+refused_of_read files name bytes source before after (fault.SolutionFull node step worker need have) whole e = absurd e

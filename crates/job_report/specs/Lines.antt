@@ -56,6 +56,11 @@ abbrev pub input_line : (name line field kind : List ℕ) → List ℕ
 input_line name line field kind =
     concat (codes "input refused: " ∷ name ∷ codes " line " ∷ line ∷ codes " field " ∷ field ∷ codes ": " ∷ kind ∷ codes "\n" ∷ [])
 
+-- the line of a solution set that is full: its node, the superstep, the worker, and the bytes that are needed and there
+abbrev pub full_line : (node step worker need have : List ℕ) → List ℕ
+full_line node step worker need have =
+    concat (codes "solution full: node " ∷ node ∷ codes " superstep " ∷ step ∷ codes " worker " ∷ worker ∷ codes " need " ∷ need ∷ codes " have " ∷ have ∷ codes "\n" ∷ [])
+
 -- the line of a program's fault; the name is that of the source that it speaks of
 abbrev pub line_of : Program → (name : List ℕ) → Fault → List ℕ
 line_of p name fault.Usage = usage_text p
@@ -67,6 +72,11 @@ line_of p name fault.Memory = codes "out of memory\n"
 line_of p name (fault.TooSmall need have) =
     concat (codes "too few segments: need " ∷ decimal need ∷ codes " have " ∷ decimal have ∷ codes "\n" ∷ [])
 line_of p name (fault.Unbound source) = concat (codes "input not bound: " ∷ source ∷ codes "\n" ∷ [])
+line_of p name (fault.SpillFault worker) = concat (codes "spill failed: worker " ∷ decimal worker ∷ codes "\n" ∷ [])
+line_of p name (fault.Damaged worker block) =
+    concat (codes "spill damaged: worker " ∷ decimal worker ∷ codes " block " ∷ decimal block ∷ codes "\n" ∷ [])
+line_of p name (fault.SolutionFull node step worker need have) =
+    full_line (decimal node) (decimal step) (decimal worker) (decimal need) (decimal have)
 
 -- what is told of an end: nothing where all was written
 abbrev pub report_of : Program → (name : List ℕ) → Option Fault → List ℕ
@@ -84,6 +94,9 @@ status_of (Some fault.WriteFault) = 8
 status_of (Some fault.Memory) = 9
 status_of (Some (fault.TooSmall need have)) = 10
 status_of (Some (fault.Unbound source)) = 12
+status_of (Some (fault.SpillFault worker)) = 6
+status_of (Some (fault.Damaged worker block)) = 11
+status_of (Some (fault.SolutionFull node step worker need have)) = 7
 
 -- what is told of a plan that is accepted: its nodes, bodies counted, and the bytes of its widest record
 abbrev pub check_text : (nodes widest : ℕ) → List ℕ

@@ -36,4 +36,21 @@ pub enum Fault {
     Unbound {
         name: Name,
     },
+    /// The disk of this worker failed.
+    SpillFault {
+        worker: u32,
+    },
+    /// The page in this block of the worker's disk isn't one that was written.
+    Damaged {
+        worker: u32,
+        block: u64,
+    },
+    /// The records of a worker's solution set exceed its segments, in bytes, at this delta node and superstep.
+    SolutionFull {
+        node: u32,
+        step: u64,
+        worker: u32,
+        need: u64,
+        have: u64,
+    },
 }

@@ -2,7 +2,7 @@ ghost use Rattle.std.specs.Prelude.{◌≡◌, [], map, OnOk, OnErr};
 ghost use Rattle.std.specs.List.{concat};
 ghost use Rattle.flow_outside.specs.Causes.{HasCause};
 ghost use Rattle.flow_outside.specs.Told.{Appends, AppendsProperPrefix};
-ghost use Rattle.job_report.specs.Lines.{usage_text, line_of, read_text, input_line, code_text, kind_text, status_of, check_text, need_text};
+ghost use Rattle.job_report.specs.Lines.{usage_text, line_of, full_line, read_text, input_line, code_text, kind_text, status_of, check_text, need_text};
 
 use crate::fault::Fault;
 use delim_io::input_kind::InputKind;
@@ -38,6 +38,9 @@ pub fn status_of(fault: &Option<Fault>) -> u8
         Some(Fault::Memory) => 9,
         Some(Fault::TooSmall { .. }) => 10,
         Some(Fault::Unbound { .. }) => 12,
+        Some(Fault::SpillFault { .. }) => 6,
+        Some(Fault::Damaged { .. }) => 11,
+        Some(Fault::SolutionFull { .. }) => 7,
     }
 }
 
@@ -71,6 +74,15 @@ pub fn write_line<E: Sink>(
             err,
             &[b"input not bound: ", name.as_str().as_bytes(), b"\n"],
         ),
+        Fault::SpillFault { worker } => write_spill_line(err, *worker),
+        Fault::Damaged { worker, block } => write_damaged_line(err, *worker, *block),
+        Fault::SolutionFull {
+            node,
+            step,
+            worker,
+            need,
+            have,
+        } => write_full_line(err, *node, *step, *worker, *need, *have),
     }
 }
 
@@ -176,6 +188,95 @@ fn write_small_line<E: Sink>(err: &mut E, need: u64, have: u64) -> Result<(), Fa
     let need = need_buffer.format(need).as_bytes();
     let have = have_buffer.format(have).as_bytes();
     let parts: [&[u8]; 5] = [b"too few segments: need ", need, b" have ", have, b"\n"];
+    write_parts(err, &parts)
+}
+
+/// Writes the line of a disk that failed.
+fn write_spill_line<E: Sink>(err: &mut E, worker: u32) -> Result<(), Failed>
+    ensures cause { HasCause (E.fault_count err.old) (E.fault_count err.new) result }
+    ensures written { OnOk result
+        (Appends (E.told err.old) (E.told err.new) (line_of Program.FlinkRun [] (Fault.SpillFault worker))) }
+    ensures broken { OnErr result
+        (AppendsProperPrefix (E.told err.old) (E.told err.new) (line_of Program.FlinkRun [] (Fault.SpillFault worker))) }
+{
+    let mut buffer = Buffer::new();
+    let worker = buffer.format(worker).as_bytes();
+    let parts: [&[u8]; 3] = [b"spill failed: worker ", worker, b"\n"];
+    write_parts(err, &parts)
+}
+
+/// Writes the line of a page that is damaged.
+fn write_damaged_line<E: Sink>(err: &mut E, worker: u32, block: u64) -> Result<(), Failed>
+    ensures cause { HasCause (E.fault_count err.old) (E.fault_count err.new) result }
+    ensures written { OnOk result
+        (Appends (E.told err.old) (E.told err.new) (line_of Program.FlinkRun [] (Fault.Damaged worker block))) }
+    ensures broken { OnErr result
+        (AppendsProperPrefix (E.told err.old) (E.told err.new) (line_of Program.FlinkRun [] (Fault.Damaged worker block))) }
+{
+    let mut worker_buffer = Buffer::new();
+    let mut block_buffer = Buffer::new();
+    let worker = worker_buffer.format(worker).as_bytes();
+    let block = block_buffer.format(block).as_bytes();
+    let parts: [&[u8]; 5] = [b"spill damaged: worker ", worker, b" block ", block, b"\n"];
+    write_parts(err, &parts)
+}
+
+/// Writes the line of a solution set that is full.
+fn write_full_line<E: Sink>(
+    err: &mut E,
+    node: u32,
+    step: u64,
+    worker: u32,
+    need: u64,
+    have: u64,
+) -> Result<(), Failed>
+    ensures cause { HasCause (E.fault_count err.old) (E.fault_count err.new) result }
+    ensures written { OnOk result (Appends (E.told err.old) (E.told err.new)
+        (line_of Program.FlinkRun [] (Fault.SolutionFull node step worker need have))) }
+    ensures broken { OnErr result (AppendsProperPrefix (E.told err.old) (E.told err.new)
+        (line_of Program.FlinkRun [] (Fault.SolutionFull node step worker need have))) }
+{
+    let mut node_buffer = Buffer::new();
+    let mut step_buffer = Buffer::new();
+    let mut worker_buffer = Buffer::new();
+    let mut need_buffer = Buffer::new();
+    let mut have_buffer = Buffer::new();
+    let node = node_buffer.format(node).as_bytes();
+    let step = step_buffer.format(step).as_bytes();
+    let worker = worker_buffer.format(worker).as_bytes();
+    let need = need_buffer.format(need).as_bytes();
+    let have = have_buffer.format(have).as_bytes();
+    write_full_parts(err, node, step, worker, need, have)
+}
+
+/// Writes the line of a solution set that is full, of its parts.
+fn write_full_parts<'a, E: Sink>(
+    err: &mut E,
+    node: &'a [u8],
+    step: &'a [u8],
+    worker: &'a [u8],
+    need: &'a [u8],
+    have: &'a [u8],
+) -> Result<(), Failed>
+    ensures cause { HasCause (E.fault_count err.old) (E.fault_count err.new) result }
+    ensures written { OnOk result (Appends (E.told err.old) (E.told err.new)
+        (full_line node.now step.now worker.now need.now have.now)) }
+    ensures broken { OnErr result (AppendsProperPrefix (E.told err.old) (E.told err.new)
+        (full_line node.now step.now worker.now need.now have.now)) }
+{
+    let parts: [&'a [u8]; 11] = [
+        b"solution full: node ",
+        node,
+        b" superstep ",
+        step,
+        b" worker ",
+        worker,
+        b" need ",
+        need,
+        b" have ",
+        have,
+        b"\n",
+    ];
     write_parts(err, &parts)
 }
 

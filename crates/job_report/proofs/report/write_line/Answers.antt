@@ -26,3 +26,11 @@ returns-in-Unbound-clause-broken g c =
 pub returns-in-TooSmall-clause-written : goal.returns-in-TooSmall-clause-written
 returns-in-TooSmall-clause-written g c =
     subst (λ (f : Fault). OnOk c.write_small_line.result (Appends (g.E.Sink.told c.args.err.now) (g.E.Sink.told c.write_small_line.new.err) (line_of c.args.program c.args.name.now f))) (sym c.in-TooSmall.is) c.write_small_line.ensures.written
+
+pub returns-in-Damaged-clause-written : goal.returns-in-Damaged-clause-written
+returns-in-Damaged-clause-written g c =
+    subst (λ (f : Fault). OnOk c.write_damaged_line.result (Appends (g.E.Sink.told c.args.err.now) (g.E.Sink.told c.write_damaged_line.new.err) (line_of c.args.program c.args.name.now f))) (sym c.in-Damaged.is) c.write_damaged_line.ensures.written
+
+pub returns-in-SolutionFull-clause-written : goal.returns-in-SolutionFull-clause-written
+returns-in-SolutionFull-clause-written g c =
+    subst (λ (f : Fault). OnOk c.write_full_line.result (Appends (g.E.Sink.told c.args.err.now) (g.E.Sink.told c.write_full_line.new.err) (line_of c.args.program c.args.name.now f))) (sym c.in-SolutionFull.is) c.write_full_line.ensures.written
